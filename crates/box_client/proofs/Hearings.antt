@@ -15,4 +15,4 @@ pub record Hearing (old : ClientParts) (all : List Update) (before : Vec Setting
   pub range : AreUpdatesInRange rest
   pub room : HasRoom now rest
   pub taken : pack.items ++ settings_in rest ≡ before.items ++ settings_in all
-  pub places : vec_len pack + length rest ≤ vec_capacity pack
+  pub slots : vec_len pack + length rest ≤ vec_capacity pack

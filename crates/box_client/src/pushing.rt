@@ -60,7 +60,7 @@ fn reserve(parts: &mut ClientParts, updates: &[Update]) -> Result<(), Memory>
 fn hear_all(parts: &mut ClientParts, updates: Vec<Update>, pack: &mut Vec<Setting>)
     requires range { AreUpdatesInRange updates.items }
     requires room { HasRoom parts.old updates.items }
-    requires places { vec_len pack.old + length updates.items ≤ vec_capacity pack.old }
+    requires slots { vec_len pack.old + length updates.items ≤ vec_capacity pack.old }
     ensures step { client_of parts.new ≡ all_updated (client_of parts.old) updates.items }
     ensures settings { parts.new.settings ≡ parts.old.settings }
     ensures pack { pack.new.items ≡ pack.old.items ++ settings_in updates.items }
@@ -84,7 +84,7 @@ fn hear_pack(parts: &mut ClientParts, date: u32, seq_start: u32, seq: u32, pack:
 fn hear_update(parts: &mut ClientParts, update: Update, pack: &mut Vec<Setting>)
     requires range { IsUpdateInRange update }
     requires room { HasRoom parts.old (update ∷ []) }
-    requires places { vec_len pack.old < vec_capacity pack.old }
+    requires slots { vec_len pack.old < vec_capacity pack.old }
     ensures step { client_of parts.new ≡ updated (client_of parts.old) update }
     ensures settings { parts.new.settings ≡ parts.old.settings }
     ensures room { (us : List Update) → HasRoom parts.old (update ∷ us) → HasRoom parts.new us }

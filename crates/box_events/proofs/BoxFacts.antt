@@ -15,7 +15,7 @@ same_events old new pages events = ap (λ (l : List BoxView). joined (l ++ new.l
 
 pub stays_box : (old new : Inside) → IsBox old → new.first ≡ old.first → new.end ≡ old.end → new.len ≡ old.len → new.pages.items ≡ old.pages.items → new.last.first ≡ old.last.first → new.last.events ≡ old.last.events
     → AreFresh new.spares.items → new.spare ≤ new.last.spare + PAGE_EVENTS * length new.spares.items → vec_len new.pages + vec_len new.spares ≤ vec_capacity new.pages → IsBox new
-stays_box old new i first end len pages begin events fresh room places =
+stays_box old new i first end len pages begin events fresh room slots =
     let same = same_events old new pages events in
     let chained : AreChained old.first (pages_of new) = subst (λ (l : List BoxView). AreChained old.first (l ++ new.last ∷ [])) (sym pages) (chained_last old.first old.pages.items old.last new.last i.chained begin) in
     record {
@@ -26,7 +26,7 @@ stays_box old new i first end len pages begin events fresh room places =
       chained = subst (λ (p : ℕ). AreChained p (pages_of new)) (sym first) chained;
       fresh = fresh;
       room = room;
-      places = places;
+      slots = slots;
     }
 
 pub same_view : (a b : BoxView) → a.first ≡ b.first → a.events ≡ b.events → a.spare ≡ b.spare → a ≡ b
@@ -34,7 +34,7 @@ same_view a b first events spare = λ i. record { first = first i; events = even
 
 pub left_box : (old new : Inside) (n : ℕ) → IsBox old → n < old.len → IsLeft old.first (pages_of old) (old.len - n) new.first (pages_of new) → new.end ≡ old.end → new.len ≡ n
     → AreFresh new.spares.items → new.spare ≤ new.last.spare + PAGE_EVENTS * length new.spares.items → vec_len new.pages + vec_len new.spares ≤ vec_capacity new.pages → IsBox new
-left_box old new n i few left end len fresh room places =
+left_box old new n i few left end len fresh room slots =
     let all = joined (pages_of old) in
     record {
       stop = omega (arith, i.stop, end, left.begin, ap ending left.events, sum_taken (old.len - n) all);
@@ -44,7 +44,7 @@ left_box old new n i few left end len fresh room places =
       chained = left.chained;
       fresh = fresh;
       room = room;
-      places = places;
+      slots = slots;
     }
 
 pub keeps_last : (old : Inside) (new : BoxView) (n : ℕ) (pages : List BoxView) → IsBox old → IsLeft old.first (pages_of old) (old.len - n) new.first pages → new.events ≡ joined pages → new.spare ≡ old.spare → KeepsLast (box_view old) new n

@@ -21,8 +21,8 @@ request_of (DifferenceAsk number pts qts date) = record { number = number; reque
 request_of (ChannelAsk number id pts) = record { number = number; request = Channel id pts }
 
 abbrev pub asks_of : Inside → List Numbered
-asks_of a = map request_of (take a.len a.places)
+asks_of a = map request_of (take a.len a.slots)
 
--- so many places are there
+-- so many slots are there
 abbrev pub IsAskList : Inside → Type 0
-IsAskList a = (a.len ≤ MAX_ASKS) × (length a.places ≡ MAX_ASKS)
+IsAskList a = (a.len ≤ MAX_ASKS) × (length a.slots ≡ MAX_ASKS)

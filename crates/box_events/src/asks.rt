@@ -25,7 +25,7 @@ enum Ask {
 /// Up to 65 requests for differences, in the order in which they were put. They take no memory.
 #[derive(Drop)]
 pub struct Asks {
-    places: [Ask; MAX_ASKS],
+    slots: [Ask; MAX_ASKS],
     len: u32,
 }
 
@@ -52,7 +52,7 @@ impl Asks {
             pts: 0,
         };
         Asks {
-            places: [none; MAX_ASKS],
+            slots: [none; MAX_ASKS],
             len: 0,
         }
     }
@@ -71,7 +71,7 @@ impl Asks {
         ensures { self.new ≡ self.old ++ ask ∷ [] }
     {
         let number = ask.number;
-        self.places[self.len as usize] = match ask.request {
+        self.slots[self.len as usize] = match ask.request {
             Request::Difference { pts, qts, date } => Ask::Difference {
                 number,
                 pts,
@@ -90,7 +90,7 @@ impl Asks {
         ensures value { slice_get self.now i ≡ Some result }
         ensures ask { IsAsk result.request }
     {
-        match self.places[i as usize] {
+        match self.slots[i as usize] {
             Ask::Difference {
                 number,
                 pts,

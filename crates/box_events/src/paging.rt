@@ -16,13 +16,13 @@ pub fn reserve_events(
     more: usize,
 ) -> Result<(), Memory>
     requires fresh { AreFresh spares.old.items }
-    requires places { vec_len pages.old + vec_len spares.old ≤ vec_capacity pages.old }
+    requires slots { vec_len pages.old + vec_len spares.old ≤ vec_capacity pages.old }
     ensures pages { pages.new.items ≡ pages.old.items }
     ensures first { last.new.first ≡ last.old.first }
     ensures events { last.new.events ≡ last.old.events }
     ensures spare { last.old.spare ≤ last.new.spare }
     ensures fresh { AreFresh spares.new.items }
-    ensures places { vec_len pages.new + vec_len spares.new ≤ vec_capacity pages.new }
+    ensures slots { vec_len pages.new + vec_len spares.new ≤ vec_capacity pages.new }
     ensures more { length spares.old.items ≤ length spares.new.items }
     ensures ok { OnOk result (more ≤ last.new.spare + PAGE_EVENTS * length spares.new.items) }
 {
@@ -32,13 +32,13 @@ pub fn reserve_events(
     reserve_pages(pages, spares, pages_more)
 }
 
-// Takes memory for so many empty pages, and for their places among the others.
+// Takes memory for so many empty pages, and for their slots among the others.
 fn reserve_pages(pages: &mut Vec<Page>, spares: &mut Vec<Page>, number: usize) -> Result<(), Memory>
     requires fresh { AreFresh spares.old.items }
-    requires places { vec_len pages.old + vec_len spares.old ≤ vec_capacity pages.old }
+    requires slots { vec_len pages.old + vec_len spares.old ≤ vec_capacity pages.old }
     ensures pages { pages.new.items ≡ pages.old.items }
     ensures fresh { AreFresh spares.new.items }
-    ensures places { vec_len pages.new + vec_len spares.new ≤ vec_capacity pages.new }
+    ensures slots { vec_len pages.new + vec_len spares.new ≤ vec_capacity pages.new }
     ensures more { length spares.old.items ≤ length spares.new.items }
     ensures ok { OnOk result (number ≤ length spares.new.items) }
 {
@@ -65,13 +65,13 @@ pub fn make_room(
     requires limit { end_of last.old ≤ MAX_END }
     requires fresh { AreFresh spares.old.items }
     requires room { spare ≤ last.old.spare + PAGE_EVENTS * length spares.old.items }
-    requires places { vec_len pages.old + vec_len spares.old ≤ vec_capacity pages.old }
+    requires slots { vec_len pages.old + vec_len spares.old ≤ vec_capacity pages.old }
     ensures events { joined (pages.new.items ++ last.new ∷ []) ≡ joined (pages.old.items ++ last.old ∷ []) }
     ensures chained { (first : ℕ) → AreChained first (pages.old.items ++ last.old ∷ []) → AreChained first (pages.new.items ++ last.new ∷ []) }
     ensures end { end_of last.new ≡ end_of last.old }
     ensures fresh { AreFresh spares.new.items }
     ensures room { spare ≤ last.new.spare + PAGE_EVENTS * length spares.new.items }
-    ensures places { vec_len pages.new + vec_len spares.new ≤ vec_capacity pages.new }
+    ensures slots { vec_len pages.new + vec_len spares.new ≤ vec_capacity pages.new }
     ensures ok { OnOk result (0 < last.new.spare) }
     ensures err { OnErr result (spare ≡ 0) }
 {
@@ -86,20 +86,20 @@ pub fn make_room(
     Ok(())
 }
 
-// An empty page that begins at a number, with a place for the last one. It takes memory only where no page is reserved.
+// An empty page that begins at a number, with a slot for the last one. It takes memory only where no page is reserved.
 fn next_page(pages: &mut Vec<Page>, spares: &mut Vec<Page>, first: u32) -> Result<Page, Memory>
     requires limit { first ≤ MAX_END }
     requires fresh { AreFresh spares.old.items }
-    requires places { vec_len pages.old + vec_len spares.old ≤ vec_capacity pages.old }
+    requires slots { vec_len pages.old + vec_len spares.old ≤ vec_capacity pages.old }
     ensures pages { pages.new.items ≡ pages.old.items }
     ensures first { IfOk result (λ p. p.first ≡ first) }
     ensures empty { IfOk result (λ p. p.events ≡ []) }
     ensures room { IfOk result (λ p. 0 < p.spare) }
     ensures spare { IfOk result (λ p. PAGE_EVENTS * length spares.old.items ≤ p.spare + PAGE_EVENTS * length spares.new.items) }
-    ensures place { OnOk result (vec_len pages.new + vec_len spares.new < vec_capacity pages.new) }
+    ensures slot { OnOk result (vec_len pages.new + vec_len spares.new < vec_capacity pages.new) }
     ensures fresh { AreFresh spares.new.items }
     ensures err { OnErr result (length spares.old.items ≡ 0) }
-    ensures err_places { OnErr result (vec_len pages.new + vec_len spares.new ≤ vec_capacity pages.new) }
+    ensures err_slots { OnErr result (vec_len pages.new + vec_len spares.new ≤ vec_capacity pages.new) }
 {
     if let Some(mut page) = spares.pop() {
         page.begin(first);

@@ -8,9 +8,9 @@ use Rattle.box_events.specs.SettingLists.{Dated, same_key, or_else, last_of}
 use Rattle.box_server.specs.Entries.{Entry, entry_of, entries_of}
 use Rattle.box_server.specs.LastEntries.{ByKey, with_entries, last_entries, keys_in}
 use Rattle.box_server.specs.Posting.{dated_with, settings_of}
-use Rattle.box_server.specs.inner.LastIndexes.{Indexes, entry_at, index_in, place_in, IsIndexed, NotesFresh, NotesPost}
+use Rattle.box_server.specs.inner.LastIndexes.{Indexes, entry_at, index_in, noted_in, IsIndexed, NotesFresh, NotesPost}
 use Rattle.box_server.proofs.LastLists.{order, get_last}
-use Rattle.box_server.proofs.KeyPlaces.{last_push, same_is}
+use Rattle.box_server.proofs.LastKeys.{last_push, same_is}
 
 -- the settings that posts set, with a date
 abbrev pub new_ones : ℕ → List Post → List Dated
@@ -29,7 +29,7 @@ keys_push L e =
 pub record Counting {A : Type 0} (date : ℕ) (L : List Dated) (keys : ℕ) (fresh : Indexes A) (posts rest : List Post) : Type 0 where
   pub M : List Dated
   pub number : keys + length fresh ≡ keys_in M
-  pub present : (q : List ℕ) → is_some (last_of M q) ≡ (is_some (last_of L q) || is_some (place_in fresh q))
+  pub present : (q : List ℕ) → is_some (last_of M q) ≡ (is_some (last_of L q) || is_some (noted_in fresh q))
   pub all : M ++ new_ones date rest ≡ L ++ new_ones date posts
 
 or_nothing : (a b : Bool) → b ≡ false → (a || b) ≡ a
@@ -40,7 +40,7 @@ pub counting_none : {A : Type 0} (date : ℕ) (L : List Dated) (keys : ℕ) (fre
 counting_none {A} date L keys fresh posts number none = record {
   M = L;
   number = omega (arith, number, ap length none);
-  present = λ q. sym (or_nothing (is_some (last_of L q)) (is_some (place_in fresh q)) (ap (λ (es : Indexes A). is_some (place_in es q)) none));
+  present = λ q. sym (or_nothing (is_some (last_of L q)) (is_some (noted_in fresh q)) (ap (λ (es : Indexes A). is_some (noted_in es q)) none));
   all = refl;
 }
 
@@ -62,7 +62,7 @@ or_true true a h = sym (h refl)
 or_true false a h = refl
 
 -- the key has a setting, or is fresh already
-pub counting_old : {A : Type 0} (date : ℕ) (L : List Dated) (keys : ℕ) (fresh : Indexes A) (posts all rest : List Post) (key value : List ℕ) → all ≡ SettingPost key value ∷ rest → (is_some (last_of L key) || is_some (place_in fresh key)) ≡ true
+pub counting_old : {A : Type 0} (date : ℕ) (L : List Dated) (keys : ℕ) (fresh : Indexes A) (posts all rest : List Post) (key value : List ℕ) → all ≡ SettingPost key value ∷ rest → (is_some (last_of L key) || is_some (noted_in fresh key)) ≡ true
     → Counting date L keys fresh posts all → Counting date L keys fresh posts rest
 counting_old date L keys fresh posts all rest key value next there c =
     let e : Dated = record { setting = record { key = key; value = value }; date = date } in
@@ -77,14 +77,14 @@ counting_old date L keys fresh posts all rest key value next there c =
       all = append_assoc c.M (e ∷ []) (new_ones date rest) ∙ ap (λ (l : List Post). c.M ++ new_ones date l) (sym next) ∙ c.all;
     }
 
-or_place : (t a : Bool) (o : Option (Option ℕ)) (x : Option ℕ) → (t || (a || is_some o)) ≡ (a || is_some (cond t (Some x) o))
-or_place true true o x = refl
-or_place true false o x = refl
-or_place false a o x = refl
+or_tail : (t a : Bool) (o : Option (Option ℕ)) (x : Option ℕ) → (t || (a || is_some o)) ≡ (a || is_some (cond t (Some x) o))
+or_tail true true o x = refl
+or_tail true false o x = refl
+or_tail false a o x = refl
 
 -- the key is fresh
-pub counting_fresh : {A : Type 0} (date : ℕ) (L : List Dated) (keys : ℕ) (fresh new : Indexes A) (posts all rest : List Post) (key value : List ℕ) → all ≡ SettingPost key value ∷ rest → (is_some (last_of L key) || is_some (place_in fresh key)) ≡ false
-    → ((q : List ℕ) → place_in new q ≡ cond (same_key q key) (Some None) (place_in fresh q)) → length new ≡ length fresh + 1 → Counting date L keys fresh posts all → Counting date L keys new posts rest
+pub counting_fresh : {A : Type 0} (date : ℕ) (L : List Dated) (keys : ℕ) (fresh new : Indexes A) (posts all rest : List Post) (key value : List ℕ) → all ≡ SettingPost key value ∷ rest → (is_some (last_of L key) || is_some (noted_in fresh key)) ≡ false
+    → ((q : List ℕ) → noted_in new q ≡ cond (same_key q key) (Some None) (noted_in fresh q)) → length new ≡ length fresh + 1 → Counting date L keys fresh posts all → Counting date L keys new posts rest
 counting_fresh date L keys fresh new posts all rest key value next there is longer c =
     let e : Dated = record { setting = record { key = key; value = value }; date = date } in
     let none : is_some (last_of c.M key) ≡ false = c.present key ∙ there in
@@ -94,7 +94,7 @@ counting_fresh date L keys fresh new posts all rest key value next there is long
       present = λ q.
           ap is_some (last_push c.M e q) ∙ some_cond (same_key q key) e (last_of c.M q)
           ∙ ap (λ (b : Bool). same_key q key || b) (c.present q)
-          ∙ or_place (same_key q key) (is_some (last_of L q)) (place_in fresh q) None
+          ∙ or_tail (same_key q key) (is_some (last_of L q)) (noted_in fresh q) None
           ∙ ap (λ (o : Option (Option ℕ)). is_some (last_of L q) || is_some o) (sym (is q));
       all = append_assoc c.M (e ∷ []) (new_ones date rest) ∙ ap (λ (l : List Post). c.M ++ new_ones date l) (sym next) ∙ c.all;
     }
@@ -140,17 +140,17 @@ or_second true = refl
 or_second false = refl
 
 pub notes_has : {A : Type 0} (L : List Dated) (es : Indexes A) (k key : List ℕ) → k ≡ key → true ≡ is_some (last_of L k) → NotesFresh L es es key
-notes_has L es k key is some = inl (ap (λ (b : Bool). b || is_some (place_in es key)) (sym (ap (λ (l : List ℕ). is_some (last_of L l)) is) ∙ sym some), refl)
+notes_has L es k key is some = inl (ap (λ (b : Bool). b || is_some (noted_in es key)) (sym (ap (λ (l : List ℕ). is_some (last_of L l)) is) ∙ sym some), refl)
 
-pub notes_place : {A : Type 0} (L : List Dated) (es : Indexes A) (k key : List ℕ) → k ≡ key → true ≡ is_some (place_in es k) → NotesFresh L es es key
-notes_place L es k key is some = inl (ap (λ (b : Bool). is_some (last_of L key) || b) (sym (ap (λ (l : List ℕ). is_some (place_in es l)) is) ∙ sym some) ∙ or_second (is_some (last_of L key)), refl)
+pub notes_index : {A : Type 0} (L : List Dated) (es : Indexes A) (k key : List ℕ) → k ≡ key → true ≡ is_some (noted_in es k) → NotesFresh L es es key
+notes_index L es k key is some = inl (ap (λ (b : Bool). is_some (last_of L key) || b) (sym (ap (λ (l : List ℕ). is_some (noted_in es l)) is) ∙ sym some) ∙ or_second (is_some (last_of L key)), refl)
 
-pub notes_new : {A : Type 0} (L : List Dated) (old new : Indexes A) (k j key : List ℕ) → k ≡ key → j ≡ key → false ≡ is_some (last_of L k) → false ≡ is_some (place_in old j) → ((q : List ℕ) → place_in new q ≡ cond (same_key q key) (Some None) (place_in old q)) → length new ≡ length old + 1 → NotesFresh L old new key
-notes_new L old new k j key is js none no_place at longer =
-    inr ((λ i. (sym (ap (λ (l : List ℕ). is_some (last_of L l)) is) ∙ sym none) i || is_some (place_in old key)) ∙ sym (ap (λ (l : List ℕ). is_some (place_in old l)) js) ∙ sym no_place, at, longer)
+pub notes_new : {A : Type 0} (L : List Dated) (old new : Indexes A) (k j key : List ℕ) → k ≡ key → j ≡ key → false ≡ is_some (last_of L k) → false ≡ is_some (noted_in old j) → ((q : List ℕ) → noted_in new q ≡ cond (same_key q key) (Some None) (noted_in old q)) → length new ≡ length old + 1 → NotesFresh L old new key
+notes_new L old new k j key is js none no_key at longer =
+    inr ((λ i. (sym (ap (λ (l : List ℕ). is_some (last_of L l)) is) ∙ sym none) i || is_some (noted_in old key)) ∙ sym (ap (λ (l : List ℕ). is_some (noted_in old l)) js) ∙ sym no_key, at, longer)
 
-pub longer_by : {A : Type 0} (old new : Indexes A) (key k : List ℕ) (was : Option (Option ℕ)) → key ≡ k → was ≡ place_in old key → false ≡ is_some (place_in old k) → length new ≡ length old + (if is_some was then 0 else 1) → length new ≡ length old + 1
-longer_by old new key k was is at none more = more ∙ ap (λ (b : Bool). length old + (if b then 0 else 1)) (ap is_some at ∙ ap (λ (l : List ℕ). is_some (place_in old l)) is ∙ sym none)
+pub longer_by : {A : Type 0} (old new : Indexes A) (key k : List ℕ) (was : Option (Option ℕ)) → key ≡ k → was ≡ noted_in old key → false ≡ is_some (noted_in old k) → length new ≡ length old + (if is_some was then 0 else 1) → length new ≡ length old + 1
+longer_by old new key k was is at none more = more ∙ ap (λ (b : Bool). length old + (if b then 0 else 1)) (ap is_some at ∙ ap (λ (l : List ℕ). is_some (noted_in old l)) is ∙ sym none)
 
 pub next_of : {A : Type 0} (xs : List A) (i : ℕ) (x : A) → i < length xs → x ≡ get_or xs i x → drop i xs ≡ x ∷ drop (i + 1) xs
 next_of {A} xs i x less is =

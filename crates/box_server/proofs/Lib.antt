@@ -11,7 +11,7 @@ pub mod Causes
 pub mod Openings
 pub mod Roominess
 pub mod Taken
-pub mod KeyPlaces
+pub mod LastKeys
 pub mod KeyCounts
 pub mod Soundness
 pub mod LastParts

@@ -11,7 +11,7 @@ ghost use Rattle.box_server.specs.inner.Taking.{Adds};
 use crate::dated::DatedSetting;
 use crate::entry::Entry;
 use crate::keeper::Keeper;
-use crate::places::{note_all, release_places, take_places};
+use crate::last_indexes::{add_keys, note_all, remove_unused_keys};
 use crate::store_fault::KeepFault;
 use box_events::{ListOf, Post, Setting};
 use std::alloc::Global;
@@ -155,12 +155,12 @@ impl SettingList {
         ensures adds { Adds K.state keeper.old keeper.new entry result }
     {
         self.settings.reserve(more.len())?;
-        if take_places(&mut self.last, &more).is_err() {
-            release_places(&mut self.last, &more);
+        if add_keys(&mut self.last, &more).is_err() {
+            remove_unused_keys(&mut self.last, &more);
             return Err(KeepFault::Memory);
         }
         if keeper.add(entry).is_err() {
-            release_places(&mut self.last, &more);
+            remove_unused_keys(&mut self.last, &more);
             return Err(KeepFault::Failed);
         }
         note_all(&mut self.settings, &mut self.last, more);

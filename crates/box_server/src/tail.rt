@@ -3,7 +3,7 @@ ghost use Rattle.std.specs.Prelude.{◌≡◌, ◌+◌, ◌≤◌, [], length};
 ghost use Rattle.box_events.specs.declared.limits.TheConstants.{MAX_END};
 ghost use Rattle.box_events.specs.Boxes.{ending};
 ghost use Rattle.box_server.specs.Servers.{channel_end};
-ghost use Rattle.box_server.specs.inner.Drafts.{AddsTo, AddsToChannel, place_from};
+ghost use Rattle.box_server.specs.inner.Drafts.{AddsTo, AddsToChannel, tail_index};
 
 use crate::fault::PostFault;
 use box_events::{Event, LaneName, MAX_END};
@@ -110,7 +110,7 @@ impl Tail {
 
 /// Where the tail of a channel stands among others.
 pub fn index_of(tails: &[Tail], id: i64) -> Option<usize>
-    ensures { result ≡ place_from 0 id tails.now }
+    ensures { result ≡ tail_index 0 id tails.now }
 {
     for (i, tail) in tails.iter().enumerate() {
         if tail.id() == id {

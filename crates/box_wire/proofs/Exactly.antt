@@ -14,7 +14,7 @@ use Rattle.tl_decode.specs.Wholes.{ReadsWhole}
 use Rattle.tl_decode.specs.declared.whole.WholeFault.{WholeFault}
 use Rattle.tl_decode.specs.declared.whole.WholeFault.TheVariants as whole
 use Rattle.wire_forms.specs.IsOf.{IsOf}
-use Rattle.wire_profile.specs.Places.{ProfileView, cell_shape}
+use Rattle.wire_profile.specs.Indexes.{ProfileView, cell_shape}
 use Rattle.wire_profile.specs.Profiles.{IsProfile}
 use Rattle.wire_profile.specs.SpelledForms.{owned, IsServed, StandsAlone}
 use Rattle.wire_profile.proofs.OwnValues.{own_of}

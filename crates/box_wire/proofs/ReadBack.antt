@@ -3,7 +3,7 @@ use Rattle.std.proofs.Common.{◌≡◌, ℕ, ◌≤◌, None, sym, ap, ◌∙�
 use Rattle.tl_types.specs.Values.{ValueView, depth}
 use Rattle.tl_types.specs.declared.value.TheConstants.{MAX_LEVELS}
 use Rattle.wire_forms.specs.IsOf.{IsOf}
-use Rattle.wire_profile.specs.Places.{form_at, number_at}
+use Rattle.wire_profile.specs.Indexes.{form_at, number_at}
 use Rattle.wire_profile.specs.SpelledForms.{owned, placed}
 use Rattle.wire_profile.proofs.ProfileFacts.{own_again}
 use Rattle.wire_profile.proofs.Renamings.{has_forms, renamed_back}
@@ -20,10 +20,10 @@ module _ {M : Type 0} (kind : Kind) (tree : M → ValueView) (inside : ValueView
   pub are_read_back : ((t : ValueView) → IsOf kind.cell t → kind.cause t ≡ None → depth t ≤ MAX_LEVELS) → AreReadBack kind tree Is Fits
   are_read_back few p good m range b s =
       let t_is = fit m range.fits in
-      let again : owned p (placed p (tree m)) ≡ tree m = renamed_back (number_at p.places) (form_at p.places) (tree m) (λ k form. own_again p good k form.0 form.1) (has_forms (tree m) kind.cell laws.alone t_is) in
+      let again : owned p (placed p (tree m)) ≡ tree m = renamed_back (number_at p.indexes) (form_at p.indexes) (tree m) (λ k form. own_again p good k form.0 form.1) (has_forms (tree m) kind.cell laws.alone t_is) in
       record {
         v = placed p (tree m);
-        spelled = (s, subst (λ (n : ℕ). n ≤ MAX_LEVELS) (sym (depth_same (number_at p.places) (tree m))) (few (tree m) t_is range.clear));
+        spelled = (s, subst (λ (n : ℕ). n ≤ MAX_LEVELS) (sym (depth_same (number_at p.indexes) (tree m))) (few (tree m) t_is range.clear));
         clear = ap kind.cause again ∙ range.clear;
         same = ap kind.normal again ∙ sym (laws.same (tree m) t_is range.clear) ∙ ap tree (laws.back m range.is);
       }

@@ -6,7 +6,7 @@ use Rattle.tl_schema.specs.Schemas.{Declared}
 use Rattle.tl_schema.specs.Formed.{IsFormed}
 use Rattle.tl_plan.specs.Plans.{PlanView}
 use Rattle.tl_plan.specs.PlanLaws.{IsInstance, IsPlanOf}
-use Rattle.wire_profile.specs.Places.{ProfileView}
+use Rattle.wire_profile.specs.Indexes.{ProfileView}
 use Rattle.wire_profile.specs.Profiles.{root_shapes}
 
 -- what holds of each type of a root, in the plan's schema, holds in the profile's

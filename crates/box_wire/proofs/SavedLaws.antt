@@ -6,7 +6,7 @@ use Rattle.tl_types.specs.declared.value.TheConstants.{MAX_LEVELS}
 use Rattle.wire_forms.specs.IsOf.{IsOf}
 use Rattle.wire_forms.specs.Forms.{forms, constructs}
 use Rattle.wire_forms.specs.declared.numbers.TheConstants.{CLIENT_TYPE, CLIENT}
-use Rattle.wire_profile.specs.Places.{ProfileView, cell_shape}
+use Rattle.wire_profile.specs.Indexes.{ProfileView, cell_shape}
 use Rattle.wire_profile.specs.Profiles.{IsProfile}
 use Rattle.wire_values.specs.Carried.{IsSaved}
 use Rattle.wire_values.specs.SavedClients.{saved_tree, saved_in}

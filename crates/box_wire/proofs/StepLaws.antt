@@ -7,7 +7,7 @@ use Rattle.tl_types.specs.declared.value.TheConstants.{MAX_LEVELS}
 use Rattle.wire_forms.specs.IsOf.{IsOf}
 use Rattle.wire_forms.specs.Forms.{forms, constructs}
 use Rattle.wire_forms.specs.declared.numbers.TheConstants.{STEP_TYPE, STEP_POST}
-use Rattle.wire_profile.specs.Places.{ProfileView, cell_shape}
+use Rattle.wire_profile.specs.Indexes.{ProfileView, cell_shape}
 use Rattle.wire_profile.specs.Profiles.{IsProfile}
 use Rattle.wire_values.specs.Steps.{step_tree, step_in}
 use Rattle.wire_values.proofs.PostsAndSteps.{step_same, step_back}

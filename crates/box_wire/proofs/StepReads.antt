@@ -20,7 +20,7 @@ use Rattle.tl_decode.specs.declared.fault.DecodeFault.{DecodeFault}
 use Rattle.tl_decode.specs.declared.fault.DecodeFault.TheVariants as decode
 use Rattle.tl_decode.proofs.TakesFour.{each_item_takes_four}
 use Rattle.box_events.specs.declared.steps.Step.{Step}
-use Rattle.wire_profile.specs.Places.{ProfileView, cell_shape}
+use Rattle.wire_profile.specs.Indexes.{ProfileView, cell_shape}
 use Rattle.wire_profile.specs.Profiles.{IsProfile, root_shapes}
 use Rattle.wire_profile.specs.SpelledForms.{owned}
 use Rattle.wire_profile.proofs.OwnValues.{own_of}

@@ -6,7 +6,7 @@ use Rattle.tl_types.specs.Refusal as refusal
 use Rattle.tl_types.specs.Offsets.{moved}
 use Rattle.tl_types.specs.declared.cause.Cause.{Cause}
 use Rattle.tl_types.specs.declared.value.TheConstants.{MAX_LEVELS}
-use Rattle.wire_profile.specs.Places.{ProfileView, cell_shape}
+use Rattle.wire_profile.specs.Indexes.{ProfileView, cell_shape}
 use Rattle.wire_profile.specs.SpelledForms.{owned, placed}
 use Rattle.wire_profile.specs.declared.wire_fault.WireFault.{WireFault}
 use Rattle.wire_profile.specs.declared.wire_fault.WireFault.TheVariants.{Refused, Trailing}

@@ -1,7 +1,7 @@
 -- Laws of messages and their bytes. This project's own.
 use Rattle.std.specs.Prelude.{◌≡◌, ℕ, List, None}
 use Rattle.tl_types.specs.Values.{ValueView}
-use Rattle.wire_profile.specs.Places.{ProfileView}
+use Rattle.wire_profile.specs.Indexes.{ProfileView}
 use Rattle.wire_profile.specs.Profiles.{IsProfile}
 use Rattle.box_wire.specs.Kinds.{Kind}
 use Rattle.box_wire.specs.Framing.{Framed, Means}

@@ -7,7 +7,7 @@ use Rattle.tl_types.specs.declared.cause.Cause.{Cause}
 use Rattle.tl_types.specs.declared.value.TheConstants.{MAX_LEVELS}
 use Rattle.box_events.specs.declared.steps.Step.{Step}
 use Rattle.box_events.specs.declared.steps.Step.TheVariants.{Date}
-use Rattle.wire_profile.specs.Places.{ProfileView, cell_shape}
+use Rattle.wire_profile.specs.Indexes.{ProfileView, cell_shape}
 use Rattle.wire_profile.specs.SpelledForms.{owned}
 use Rattle.wire_values.specs.Steps.{step_tree}
 use Rattle.wire_profile.specs.declared.wire_fault.WireFault.{WireFault}

@@ -22,7 +22,7 @@ pub fn spell_call(alloc: Global, profile: &Profile, call: &Numbered) -> Result<B
     ensures { Spelled (Framed profile.now calls (call_tree call.now)) result }
 {
     let mut value = call_value(alloc, call)?;
-    profile.put_places(&mut value);
+    profile.put_indexes(&mut value);
     within(bytes_of_call(alloc, profile.schema(), &value)?)
 }
 

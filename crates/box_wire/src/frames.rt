@@ -26,7 +26,7 @@ pub fn spell_frame(alloc: Global, profile: &Profile, frame: &Frame) -> Result<By
     ensures { Spelled (Framed profile.now frames (frame_tree frame.now)) result }
 {
     let mut value = frame_value(alloc, frame)?;
-    profile.put_places(&mut value);
+    profile.put_indexes(&mut value);
     within(bytes_of(alloc, profile.plan(), FRAME_ROOT, &value)?)
 }
 

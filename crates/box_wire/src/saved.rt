@@ -26,7 +26,7 @@ pub fn spell_saved(alloc: Global, profile: &Profile, saved: &Saved) -> Result<By
     ensures { IfOk result (IsOnly (Framed profile.now saved_clients (saved_tree saved.now))) }
 {
     let mut value = saved_value(alloc, saved)?;
-    profile.put_places(&mut value);
+    profile.put_indexes(&mut value);
     let bytes = bytes_of(alloc, profile.plan(), SAVED_ROOT, &value)?;
     Ok(Bytes::from_vec(bytes))
 }

@@ -30,7 +30,7 @@ pub fn spell_step(alloc: Global, profile: &Profile, step: &Step) -> Result<Bytes
     ensures { IfOk result (IsOnly (Framed profile.now steps (step_tree step.now))) }
 {
     let mut value = step_value(alloc, step)?;
-    profile.put_places(&mut value);
+    profile.put_indexes(&mut value);
     let bytes = bytes_of(alloc, profile.plan(), STEP_ROOT, &value)?;
     Ok(Bytes::from_vec(bytes))
 }

@@ -254,7 +254,7 @@ push_goes c (push.Container us date start seq) h f = pack_goes (ltb 0 seq) (all_
 becomes_is : (c d : ClientState) → becomes c ≡ becomes d → c ≡ d
 becomes_is c d e = cc
 
-record FitsBrought (b : Received) : Type 0 where
+record FitsReceived (b : Received) : Type 0 where
   news : All IsText b.news
   secrets : All IsText b.secrets
   others : All FitsPlaced b.others
@@ -278,12 +278,12 @@ taken_goes : (back : Bool) (c : ClientState) (b : Received) (xs ys : List EventV
 taken_goes true c b xs ys d is h all x y = absurd cc
 taken_goes false c b xs ys d is h all x y = subst FitsClient (becomes_is (group_done b.last c b xs ys) d is) (done_goes b.last c b xs ys h all x y)
 
-woven_goes : (c : ClientState) (b : Received) (o p : Result (List EventView) WeaveCause) (d : ClientState) → group_woven c b o p ≡ becomes d → FitsClient c → FitsBrought b → ((xs : List EventView) → o ≡ Ok xs → All FitsEvent xs) → ((ys : List EventView) → p ≡ Ok ys → All FitsEvent ys) → FitsClient d
+woven_goes : (c : ClientState) (b : Received) (o p : Result (List EventView) WeaveCause) (d : ClientState) → group_woven c b o p ≡ becomes d → FitsClient c → FitsReceived b → ((xs : List EventView) → o ≡ Ok xs → All FitsEvent xs) → ((ys : List EventView) → p ≡ Ok ys → All FitsEvent ys) → FitsClient d
 woven_goes c b (Err cause) p d is h f x y = absurd cc
 woven_goes c b (Ok xs) (Err cause) d is h f x y = absurd cc
 woven_goes c b (Ok xs) (Ok ys) d is h f x y = taken_goes (b.last && ltb b.state.seq c.settings.at) c b xs ys d is h f.settings (x xs refl) (y ys refl)
 
-brings_goes : (c : ClientState) (b : Received) (d : ClientState) → brings c b ≡ becomes d → FitsClient c → FitsBrought b → FitsClient d
+brings_goes : (c : ClientState) (b : Received) (d : ClientState) → brings c b ≡ becomes d → FitsClient c → FitsReceived b → FitsClient d
 brings_goes c b d is h f =
     woven_goes c b (woven_of c.common.at b.state.pts b.news b.others) (woven_of c.secret.at b.state.qts b.secrets []) d is h f (λ xs e. woven_all c.common.at b.state.pts b.news b.others xs e f.news f.others)
     (λ ys e. woven_all c.secret.at b.state.qts b.secrets [] ys e f.secrets (All-nil FitsPlaced))

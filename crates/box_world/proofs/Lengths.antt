@@ -15,7 +15,7 @@ use Rattle.wire_forms.specs.declared.form.Cell.TheVariants.{Whole, Signed, Long,
 use Rattle.wire_forms.specs.Forms.{FormView, PartView, cells_of}
 use Rattle.wire_forms.specs.Parts.{first}
 use Rattle.wire_forms.specs.IsOf.{IsField, IsOf, EachOf, AreOf}
-use Rattle.wire_profile.specs.Places.{ProfileView, number_at, form_at, cell_shape, cell_cond, slot_of}
+use Rattle.wire_profile.specs.Indexes.{ProfileView, number_at, form_at, cell_shape, cell_cond, slot_of}
 use Rattle.wire_profile.specs.Profiles.{IsProfile}
 use Rattle.wire_profile.specs.Renaming.{renamed, renamed_each}
 use Rattle.wire_profile.specs.SpelledForms.{owned, StandsAlone}
@@ -69,7 +69,7 @@ gone p c v x none empty = ap length empty ∙ sym (ap (λ (u : ValueView). size_
 
 field_long : (p : ProfileView) (flags : ValueView) (before : List ValueView) (c : Cell) (v : ValueView) (x : List ℕ) → ((stands_by (cell_cond c) before ≡ true) × Spells p.schema (closed [] (cell_shape p c)) v x) ⊎ ((stands_by (cell_cond c) before ≡ false) × (v ≡ absent) × (x ≡ []))
     → IsField flags c (owned p v) (IsOf c (owned p v)) → (StandsAlone c → Spells p.schema (cell_shape p c) v x → IsOf c (owned p v) → length x ≡ size_in c (owned p v)) → (cs : List Cell) → AreGood (c ∷ cs) → (length x ≡ size_in c (owned p v)) × AreGood cs
-field_long p flags before Final v x (inl (set, s)) is law cs good = (flag_long p.schema (form_at p.places) v x s, good)
+field_long p flags before Final v x (inl (set, s)) is law cs good = (flag_long p.schema (form_at p.indexes) v x s, good)
 field_long p flags before Final v x (inr (clear, none, empty)) is law cs good = (gone p Final v x none empty, good)
 field_long p flags before Whole v x s is law cs good = (there p.schema (cell_shape p Whole) before v x s (λ t. law good.0 t is), good.1)
 field_long p flags before Signed v x s is law cs good = (there p.schema (cell_shape p Signed) before v x s (λ t. law good.0 t is), good.1)
@@ -111,36 +111,36 @@ mutual
   has_size p good (list vs) (ManyBare j) b alone s of =
       vector_long (cell_shape p (Bare j)) s.1 s.0 (count vs) s.2 b s.3 s.5 ∙ ap (λ (n : ℕ). 8 + n) (each_size p good vs (Bare j) s.2 alone (elements p.schema (cell_shape p (Bare j)) s.1 true s.0 vs s.2 s.3 s.6) of.1)
   has_size p good (node e vs) (One h) b alone (d, args, prefix, r, begin, split, inner) of =
-      let k = form_at p.places e in
-      let us = renamed_each (form_at p.places) vs in
+      let k = form_at p.indexes e in
+      let us = renamed_each (form_at p.indexes) vs in
       let m = boxed_is p.schema (number_at p.heads h) e d args prefix begin in
       let f = member_form h k of.0 in
       let declares = declared p good e k f.0 d refl f.1.there m.0.there in
       joined_long prefix r b 4 (fields_size (cells_of k) us) split (boxed_long p.schema (number_at p.heads h) e d args prefix begin)
       (by_cells k (length r) f.0 us f.1.there (all_size p good vs (first us) [] f.0.parts r (form_is_good k f.0 f.1.there) (its_fields p f.0 d args vs r m.1 declares inner) (its_values k f.0 us f.1.there of.1)))
   has_size p good (node e vs) (Bare j) b alone (d, args, prefix, r, begin, split, inner) of =
-      let us = renamed_each (form_at p.places) vs in
-      let m = bare_is p.schema (number_at p.places j) e d args prefix begin in
+      let us = renamed_each (form_at p.indexes) vs in
+      let m = bare_is p.schema (number_at p.indexes j) e d args prefix begin in
       let f = member_form alone.0 j alone.1 in
-      let is : form_at p.places e ≡ j = ap (form_at p.places) (sym m.0) ∙ own_again p good j f.0 f.1.there in
+      let is : form_at p.indexes e ≡ j = ap (form_at p.indexes) (sym m.0) ∙ own_again p good j f.0 f.1.there in
       let declares = declared p good e j f.0 d is f.1.there m.1 in
       let fields = by_cells j (length r) f.0 us f.1.there (all_size p good vs (first us) [] f.0.parts r (form_is_good j f.0 f.1.there) (its_fields p f.0 d args vs r m.2 declares inner) (its_values j f.0 us f.1.there of.1)) in
-      joined_long prefix r b 0 (fields_size (cells_of (form_at p.places e)) us) split (bare_long p.schema (number_at p.places j) e d args prefix begin) (fields ∙ ap (λ (k : ℕ). fields_size (cells_of k) us) (sym is))
+      joined_long prefix r b 0 (fields_size (cells_of (form_at p.indexes e)) us) split (bare_long p.schema (number_at p.indexes j) e d args prefix begin) (fields ∙ ap (λ (k : ℕ). fields_size (cells_of k) us) (sym is))
   has_size p good (call e vs) Query b alone (d, r, is_call, fn, split, inner) of =
-      let k = form_at p.places e in
-      let us = renamed_each (form_at p.places) vs in
+      let k = form_at p.indexes e in
+      let us = renamed_each (form_at p.indexes) vs in
       let f = function_form k of.0 in
       let declares = declared p good e k f.0 d refl f.1 fn.there in
       joined_long (word d.number) r b 4 (fields_size (cells_of k) us) split refl
       (by_cells k (length r) f.0 us f.1 (all_size p good vs (first us) [] f.0.parts r (form_is_good k f.0 f.1) (its_fields p f.0 d no_shapes vs r refl declares inner) (its_values k f.0 us f.1 of.1)))
   has_size p good v c b alone s of = absurd of
 
-  each_size : (p : ProfileView) (good : IsProfile p) (vs : ValueViews) (c : Cell) (b : List ℕ) → StandsAlone c → SpellEach p.schema (cell_shape p c) vs b → EachOf c (renamed_each (form_at p.places) vs) → length b ≡ sizes_of c (renamed_each (form_at p.places) vs)
+  each_size : (p : ProfileView) (good : IsProfile p) (vs : ValueViews) (c : Cell) (b : List ℕ) → StandsAlone c → SpellEach p.schema (cell_shape p c) vs b → EachOf c (renamed_each (form_at p.indexes) vs) → length b ≡ sizes_of c (renamed_each (form_at p.indexes) vs)
   each_size p good no_values c b alone s of = ap length s
   each_size p good (value v vs) c b alone (x, y, split, s, more) of = joined_long x y b _ _ split (has_size p good v c x alone s of.0) (each_size p good vs c y alone more of.1)
 
   all_size : (p : ProfileView) (good : IsProfile p) (vs : ValueViews) (flags : ValueView) (before : List ValueView) (parts : List PartView) (b : List ℕ) → AreGood (cells parts) → SpellFields p.schema [] before (map (slot_of p) parts) vs b
-      → AreOf flags (cells parts) (renamed_each (form_at p.places) vs) → length b ≡ fields_size (cells parts) (renamed_each (form_at p.places) vs)
+      → AreOf flags (cells parts) (renamed_each (form_at p.indexes) vs) → length b ≡ fields_size (cells parts) (renamed_each (form_at p.indexes) vs)
   all_size p good no_values flags before [] b cells_good s of = ap length s
   all_size p good no_values flags before (part ∷ parts) b cells_good s of = absurd s
   all_size p good (value v vs) flags before [] b cells_good s of = absurd s

@@ -3,7 +3,7 @@ use Rattle.std.proofs.Common.{◌≡◌, ℕ, ◌≤◌, List, length, None, sym
 use Rattle.tl_types.specs.Values.{ValueView, depth}
 use Rattle.tl_types.specs.declared.value.TheConstants.{MAX_LEVELS}
 use Rattle.wire_forms.specs.IsOf.{IsOf}
-use Rattle.wire_profile.specs.Places.{ProfileView, form_at, number_at}
+use Rattle.wire_profile.specs.Indexes.{ProfileView, form_at, number_at}
 use Rattle.wire_profile.specs.Profiles.{IsProfile}
 use Rattle.wire_profile.specs.SpelledForms.{owned, placed, IsServed}
 use Rattle.wire_profile.proofs.ProfileFacts.{own_again}
@@ -21,7 +21,7 @@ use Rattle.box_world.proofs.PartsFit.{Fits, fits_of}
 
 module _ {M : Type 0} (kind : Kind) (tree : M → ValueView) (inside : ValueView → M) (Is : M → Type 0) (laws : KindLaws kind tree inside Is) (has : (m : M) → HasForms (tree m)) (served : (m : M) → IsServed kind.cell (tree m)) where
   again : (p : ProfileView) → IsProfile p → (m : M) → owned p (placed p (tree m)) ≡ tree m
-  again p good m = renamed_back (number_at p.places) (form_at p.places) (tree m) (λ k form. own_again p good k form.0 form.1) (has m)
+  again p good m = renamed_back (number_at p.indexes) (form_at p.indexes) (tree m) (λ k form. own_again p good k form.0 form.1) (has m)
 
   owned_is : (p : ProfileView) → IsProfile p → (m : M) (b : List ℕ) → Framed p kind (tree m) b → IsOf kind.cell (owned p (placed p (tree m)))
   owned_is p good m b s = own_of p good (placed p (tree m)) kind.cell b laws.alone s (subst (λ (t : ValueView). IsServed kind.cell t) (sym (again p good m)) (served m))
@@ -40,7 +40,7 @@ module _ {M : Type 0} (kind : Kind) (tree : M → ValueView) (inside : ValueView
       let kind_is = of_the_kind p good m b s in
       record {
         v = placed p (tree m);
-        spelled = (s, subst (λ (n : ℕ). n ≤ MAX_LEVELS) (sym (depth_same (number_at p.places) (tree m))) (few (tree m) kind_is clear));
+        spelled = (s, subst (λ (n : ℕ). n ≤ MAX_LEVELS) (sym (depth_same (number_at p.indexes) (tree m))) (few (tree m) kind_is clear));
         clear = ap kind.cause (again p good m) ∙ clear;
         same = ap kind.normal (again p good m) ∙ sym (laws.same (tree m) kind_is clear) ∙ ap tree (laws.back m is);
       }

@@ -34,7 +34,7 @@ use Rattle.wire_values.specs.Carried.{FitsPost, FitsSaved, IsSaved}
 use Rattle.wire_values.specs.CarriedFrames.{FitsFrame, FitsPush, FitsReceipt, FitsReply, IsFrame, IsWord}
 use Rattle.wire_values.specs.Frames.{frame_tree}
 use Rattle.wire_values.specs.SavedClients.{saved_tree}
-use Rattle.wire_profile.specs.Places.{ProfileView}
+use Rattle.wire_profile.specs.Indexes.{ProfileView}
 use Rattle.wire_profile.specs.Profiles.{IsProfile}
 use Rattle.box_wire.specs.Framing.{Means}
 use Rattle.box_wire.specs.Kinds.{frames, saved_clients}

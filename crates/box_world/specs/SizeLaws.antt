@@ -5,7 +5,7 @@ use Rattle.tl_types.specs.Values.{ValueView}
 use Rattle.box_events.specs.declared.replies.Frame.{Frame}
 use Rattle.box_events.specs.declared.requests.Numbered.{Numbered}
 use Rattle.wire_forms.specs.IsOf.{IsOf}
-use Rattle.wire_profile.specs.Places.{ProfileView}
+use Rattle.wire_profile.specs.Indexes.{ProfileView}
 use Rattle.wire_profile.specs.Profiles.{IsProfile}
 use Rattle.box_wire.specs.Kinds.{Kind}
 use Rattle.box_wire.specs.Framing.{Framed, Means}

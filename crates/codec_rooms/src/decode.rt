@@ -30,7 +30,7 @@ use tl_schema::{Schema, TypeRef};
 use tl_types::{Cause, Value};
 
 // What is told of bytes that are no spelling.
-fn cause_unmade(alloc: Global, place: u64, cause: Cause) -> LoadError
+fn cause_error(alloc: Global, place: u64, cause: Cause) -> LoadError
     ensures { RefusesAs (input_line place (cause_text cause)) result }
 {
     match cause_text(alloc, cause) {
@@ -40,11 +40,11 @@ fn cause_unmade(alloc: Global, place: u64, cause: Cause) -> LoadError
 }
 
 // What is told of an input that is no value.
-fn fault_unmade(alloc: Global, fault: WholeFault) -> LoadError
+fn fault_error(alloc: Global, fault: WholeFault) -> LoadError
     ensures { MakesFault fault (of_fault result) }
 {
     match fault {
-        WholeFault::Refused { place, cause } => cause_unmade(alloc, place, cause),
+        WholeFault::Refused { place, cause } => cause_error(alloc, place, cause),
         WholeFault::Trailing { place } => LoadError::placed(alloc, "input", place, "Trailing"),
         WholeFault::ReadFault => LoadError::ReadFault,
         WholeFault::Memory => LoadError::Memory,
@@ -96,7 +96,7 @@ fn print_verdict<H: Host>(
 {
     match got {
         Ok(value) => print_value(alloc, host, schema, of, &value),
-        Err(fault) => print_made(host, Err(fault_unmade(alloc, fault))),
+        Err(fault) => print_made(host, Err(fault_error(alloc, fault))),
     }
 }
 

@@ -14,7 +14,7 @@ ghost use Rattle.codec_rooms.specs.inner.Purposes.{IsPlanOf, MakesForm};
 
 use crate::typed::{Purpose, follow_file};
 use outside::{Host, LoadError, Status, finish, print_made, read_file, unread};
-use schema_files::{JSON_BYTES, fit_unmade, formed_value, plan_of};
+use schema_files::{JSON_BYTES, fit_error, formed_value, plan_of};
 use std::alloc::{AllocError, Global};
 use tl_base::Slot;
 use tl_encode::spelling_of;
@@ -34,7 +34,7 @@ fn spelling_made(
 {
     match spelling_of(alloc, plan, 0, value) {
         Ok(bytes) => Ok(bytes),
-        Err(fault) => Err(fit_unmade(alloc, &fault)),
+        Err(fault) => Err(fit_error(alloc, &fault)),
     }
 }
 

@@ -9,9 +9,9 @@ use Rattle.tl_schema.specs.Schemas.{Declared}
 use Rattle.tl_schema.specs.CheckedPrograms.{IsSchema}
 use Rattle.tl_schema.specs.AskedTypes.{IsTypeText}
 use Rattle.tl_schema.proofs.OneType.{one_meaning}
-use Rattle.tl_names.specs.Places.{types_of}
+use Rattle.tl_names.specs.Indexes.{types_of}
 use Rattle.wire_forms.specs.Forms.{type_names}
-use Rattle.wire_profile.specs.Places.{ProfileView}
+use Rattle.wire_profile.specs.Indexes.{ProfileView}
 use Rattle.wire_profile.specs.Profiles.{IsHead, AreHeads, IsProfile}
 use Rattle.wire_profile.specs.declared.fault.ProfileFault.{ProfileFault}
 use Rattle.wire_profile.specs.declared.fault.ProfileFault.TheVariants as profile
@@ -80,7 +80,7 @@ ok_is p q (Some fault) e = absurd cc
 module _ (S : Declared) (heads : List ℕ) where
   found : AreHeads S type_names heads → IsFound (profile_of S heads)
   unfolding profile_of
-  found are = record { places = refl; heads = are }
+  found are = record { indexes = refl; heads = are }
 
   own : IsSchema S → IsSchema (profile_of S heads).schema
   unfolding profile_of

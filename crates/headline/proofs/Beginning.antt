@@ -10,7 +10,7 @@ use Rattle.box_client.specs.Saving.{is_next}
 use Rattle.box_client.specs.States.{ClientState}
 use Rattle.box_client.proofs.Loadings.{next_of}
 use Rattle.wire_forms.specs.IsOf.{IsLong}
-use Rattle.wire_profile.specs.Places.{ProfileView}
+use Rattle.wire_profile.specs.Indexes.{ProfileView}
 use Rattle.wire_profile.specs.Profiles.{IsProfile}
 use Rattle.box_world.specs.Spelled.{FitsChannel}
 use Rattle.session_commands.specs.Client.{HasClient, begins, loads, watch_all, watch_one}

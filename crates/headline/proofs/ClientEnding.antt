@@ -8,7 +8,7 @@ use Rattle.channel_box.specs.States.{ids_of}
 use Rattle.box_client.specs.Saving.{saved_of}
 use Rattle.box_client.specs.States.{ClientState}
 use Rattle.box_world.specs.Streams.{begun}
-use Rattle.wire_profile.specs.Places.{ProfileView}
+use Rattle.wire_profile.specs.Indexes.{ProfileView}
 use Rattle.wire_profile.specs.Profiles.{IsProfile}
 use Rattle.wire_values.specs.SavedClients.{saved_tree}
 use Rattle.box_wire.specs.Framing.{Framed}

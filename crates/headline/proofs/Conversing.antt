@@ -27,7 +27,7 @@ use Rattle.box_server.specs.Sound.{IsSound}
 use Rattle.box_world.specs.Agreeing.{Agrees, Each}
 use Rattle.box_world.specs.Streams as streams
 use Rattle.box_world.specs.Streams.{Doing, Honest, Past, begun, dates, done, done_all, first_past, heard_frame, past_of}
-use Rattle.wire_profile.specs.Places.{ProfileView, cell_shape, form_at, number_at}
+use Rattle.wire_profile.specs.Indexes.{ProfileView, cell_shape, form_at, number_at}
 use Rattle.wire_profile.specs.Profiles.{IsProfile}
 use Rattle.wire_profile.specs.SpelledForms.{owned, placed}
 use Rattle.wire_profile.proofs.ProfileFacts.{own_again}
@@ -114,12 +114,12 @@ stays_so p s (q ∷ qs) h = ap (λ (t : ServerState). after_all (server_side p) 
 
 module _ {M : Type 0} (kind : Kind) (tree : M → ValueView) (inside : ValueView → M) (Is : M → Type 0) (laws : KindLaws kind tree inside Is) (has : (m : M) → HasForms (tree m)) (p : ProfileView) (good : IsProfile p) (formed : IsFormed p.schema (cell_shape p kind.cell)) where
   own_tree : (x : M) → owned p (placed p (tree x)) ≡ tree x
-  own_tree x = renamed_back (number_at p.places) (form_at p.places) (tree x) (λ k form. own_again p good k form.0 form.1) (has x)
+  own_tree x = renamed_back (number_at p.indexes) (form_at p.indexes) (tree x) (λ k form. own_again p good k form.0 form.1) (has x)
 
   meant_one : (bytes : List ℕ) → AreBytes bytes → (x s : M) → Is x → Is s → depth (tree x) ≤ MAX_LEVELS → Framed p kind (tree x) bytes → Means p kind (tree s) bytes → s ≡ x
   meant_one bytes are x s was is few spelled means =
       let one : ExactlyOne p.schema MAX_LEVELS (cell_shape p kind.cell) bytes = exactly_one p.schema good.schema MAX_LEVELS (cell_shape p kind.cell) bytes formed are in
-      let deep : depth (placed p (tree x)) ≤ MAX_LEVELS = subst (λ (n : ℕ). n ≤ MAX_LEVELS) (sym (depth_same (number_at p.places) (tree x))) few in
+      let deep : depth (placed p (tree x)) ≤ MAX_LEVELS = subst (λ (n : ℕ). n ≤ MAX_LEVELS) (sym (depth_same (number_at p.indexes) (tree x))) few in
       let v : ValueView = means.v in
       let same : v ≡ placed p (tree x) = (one.one_value v (placed p (tree x)) bytes bytes ([], sym (append-nil bytes), means.spelled.0, means.spelled.1) ([], sym (append-nil bytes), spelled, deep)).0 in
       let read = read_of kind tree inside Is laws p good s bytes is means in

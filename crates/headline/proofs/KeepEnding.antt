@@ -7,7 +7,7 @@ use Rattle.box_server.specs.declared.entry.Entry.{Entry}
 use Rattle.box_server.specs.Rebuilding.{Rebuilds, rebuilt}
 use Rattle.box_server.proofs.Rebuilt.{one_server}
 use Rattle.box_world.specs.Streams.{Doing}
-use Rattle.wire_profile.specs.Places.{ProfileView}
+use Rattle.wire_profile.specs.Indexes.{ProfileView}
 use Rattle.outside.specs.declared.status.Status.TheVariants.{Done}
 use Rattle.outside.proofs.SameFiles.{same_file}
 use Rattle.fault_lines.specs.Profiled.{IsProfileText}

@@ -14,7 +14,7 @@ use Rattle.box_server.specs.Servers.{ServerState, dated_at}
 use Rattle.box_server.specs.Sound.{IsSound}
 use Rattle.box_world.specs.Streams.{Doing, dates, past_of}
 use Rattle.box_world.proofs.Posting.{none_either}
-use Rattle.wire_profile.specs.Places.{ProfileView}
+use Rattle.wire_profile.specs.Indexes.{ProfileView}
 use Rattle.wire_profile.specs.Profiles.{IsProfile}
 use Rattle.wire_values.specs.SavedClients.{saved_tree}
 use Rattle.box_wire.specs.Framing.{Framed}

@@ -16,7 +16,7 @@ use Rattle.box_world.specs.Agreeing.{Agrees, Boxes}
 use Rattle.box_world.specs.Streams.{Doing, Honest, Past, begun, done, done_all, first_past, heard_frame, past_of}
 use Rattle.box_world.proofs.GoingOn.{agree_restarts, agree_watches}
 use Rattle.box_world.proofs.Growing.{new_clients_agree}
-use Rattle.wire_profile.specs.Places.{ProfileView}
+use Rattle.wire_profile.specs.Indexes.{ProfileView}
 use Rattle.wire_profile.specs.Profiles.{IsProfile}
 use Rattle.wire_values.specs.SavedClients.{saved_tree}
 use Rattle.box_wire.specs.Framing.{Framed}

@@ -9,7 +9,7 @@ use Rattle.box_client.specs.States.{ClientState}
 use Rattle.box_server.specs.Servers.{ServerState, dated_at, new_server}
 use Rattle.box_world.specs.Streams.{Doing, dates}
 use Rattle.wire_profile.specs.Faults.{IsAnswer}
-use Rattle.wire_profile.specs.Places.{ProfileView}
+use Rattle.wire_profile.specs.Indexes.{ProfileView}
 use Rattle.wire_profile.specs.Profiles.{IsProfile}
 use Rattle.wire_values.specs.SavedClients.{saved_tree}
 use Rattle.box_wire.specs.Framing.{Framed}

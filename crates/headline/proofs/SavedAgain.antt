@@ -7,7 +7,7 @@ use Rattle.tl_types.specs.declared.value.TheConstants.{MAX_LEVELS}
 use Rattle.tl_types.proofs.Exactly.{exactly_one}
 use Rattle.box_events.specs.declared.saved.Saved.{Saved}
 use Rattle.wire_forms.specs.IsOf.{IsOf}
-use Rattle.wire_profile.specs.Places.{ProfileView, cell_shape, form_at, number_at}
+use Rattle.wire_profile.specs.Indexes.{ProfileView, cell_shape, form_at, number_at}
 use Rattle.wire_profile.specs.Profiles.{IsProfile}
 use Rattle.wire_profile.specs.SpelledForms.{owned, placed}
 use Rattle.wire_profile.proofs.ProfileFacts.{own_again}
@@ -24,12 +24,12 @@ use Rattle.box_world.proofs.SpelledMessages.{of_the_kind, read_of}
 
 module _ (p : ProfileView) (good : IsProfile p) (bytes : List ℕ) (are : AreBytes bytes) where
   own_tree : (x : Saved) → owned p (placed p (saved_tree x)) ≡ saved_tree x
-  own_tree x = renamed_back (number_at p.places) (form_at p.places) (saved_tree x) (λ k form. own_again p good k form.0 form.1) (saved_has x)
+  own_tree x = renamed_back (number_at p.indexes) (form_at p.indexes) (saved_tree x) (λ k form. own_again p good k form.0 form.1) (saved_has x)
 
   begins : (v : ValueView) (x : Saved) → Framed p saved_clients (saved_tree x) bytes → BeginsWith p.schema MAX_LEVELS (cell_shape p saved_clients.cell) bytes (placed p (saved_tree x)) bytes
   begins v x spelled =
       let is : IsOf saved_clients.cell (saved_tree x) = of_the_kind saved_clients saved_tree saved_in IsSaved saved_laws saved_has (λ m. tt) p good x bytes spelled in
-      ([], sym (append-nil bytes), spelled, subst (λ (n : ℕ). n ≤ MAX_LEVELS) (sym (depth_same (number_at p.places) (saved_tree x))) (saved_levels (saved_tree x) is))
+      ([], sym (append-nil bytes), spelled, subst (λ (n : ℕ). n ≤ MAX_LEVELS) (sym (depth_same (number_at p.indexes) (saved_tree x))) (saved_levels (saved_tree x) is))
 
   pub saved_again : (x s : Saved) → IsSaved x → IsSaved s → Framed p saved_clients (saved_tree x) bytes → Means p saved_clients (saved_tree s) bytes → s ≡ x
   saved_again x s was is spelled means =

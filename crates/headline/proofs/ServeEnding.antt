@@ -7,7 +7,7 @@ use Rattle.box_server.specs.Servers.{ServerState, new_server}
 use Rattle.box_server.specs.declared.entry.Entry.{Entry}
 use Rattle.tl_numbers.specs.Bytes.{ListsOfBytes}
 use Rattle.box_world.specs.Streams.{Doing}
-use Rattle.wire_profile.specs.Places.{ProfileView}
+use Rattle.wire_profile.specs.Indexes.{ProfileView}
 use Rattle.wire_profile.specs.Profiles.{IsProfile}
 use Rattle.outside.specs.Answer.{Answer}
 use Rattle.outside.specs.Kept.{Leaves}

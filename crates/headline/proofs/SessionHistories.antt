@@ -24,7 +24,7 @@ use Rattle.box_server.proofs.Rebuilt.{one_server}
 use Rattle.box_world.specs.Streams.{Doing, Past, dates, done, done_all, first_past, past_of, posted_by, posts}
 use Rattle.box_world.specs.Agreeing.{Each}
 use Rattle.wire_forms.specs.Parts.{row}
-use Rattle.wire_profile.specs.Places.{ProfileView}
+use Rattle.wire_profile.specs.Indexes.{ProfileView}
 use Rattle.wire_profile.specs.Profiles.{IsProfile}
 use Rattle.wire_values.specs.Calls.{call_in, call_tree}
 use Rattle.wire_values.specs.Carried.{FitsCall, FitsPost, FitsRequest}

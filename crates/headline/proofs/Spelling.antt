@@ -25,7 +25,7 @@ use Rattle.box_world.specs.Recovering.{AnswersEach}
 use Rattle.box_world.specs.Streams as streams
 use Rattle.box_world.specs.Streams.{Doing, IsHonestFrame, Past, begun, dates, done, first_past, heard_frame, past_of, told_reply}
 use Rattle.box_world.proofs.GoingOn.{agree_ticks, agree_wakes}
-use Rattle.wire_profile.specs.Places.{ProfileView}
+use Rattle.wire_profile.specs.Indexes.{ProfileView}
 use Rattle.wire_profile.specs.Profiles.{IsProfile}
 use Rattle.wire_values.specs.Calls.{call_in, call_tree}
 use Rattle.wire_values.specs.Carried.{FitsCall}

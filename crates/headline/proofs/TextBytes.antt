@@ -12,7 +12,7 @@ use Rattle.tl_types.specs.Spelling.{vector_prefix, Spells, SpellEach, SpellField
 use Rattle.tl_types.proofs.Numbers.{bytes_after}
 use Rattle.box_events.specs.declared.requests.Numbered.{Numbered}
 use Rattle.box_world.specs.Agreeing.{Each}
-use Rattle.wire_profile.specs.Places.{ProfileView, cell_shape, form_at, number_at}
+use Rattle.wire_profile.specs.Indexes.{ProfileView, cell_shape, form_at, number_at}
 use Rattle.wire_profile.specs.Renaming.{renamed, renamed_each}
 use Rattle.wire_profile.specs.SpelledForms.{placed}
 use Rattle.wire_values.specs.Calls.{call_tree}
@@ -77,11 +77,11 @@ mutual
 -- ---- messages
 
 pub call_texts : (p : ProfileView) (c : Numbered) (b : List ℕ) → AreBytes b → MeansCall p c b → ValueHolds (call_tree c)
-call_texts p c b are means = subst ValueHolds means.same (renamed_holds (form_at p.places) means.v (texts_are p.schema means.v _ b means.spelled.0 are))
+call_texts p c b are means = subst ValueHolds means.same (renamed_holds (form_at p.indexes) means.v (texts_are p.schema means.v _ b means.spelled.0 are))
 
 module _ {M : Type 0} (kind : Kind) (tree : M → ValueView) (p : ProfileView) where
   pub packed_are : (ms : List M) (bytes : List ℕ) → Each (λ m. ValueHolds (tree m)) ms → Packed (λ m b. Framed p kind (tree m) b) ms bytes → AreBytes bytes
   packed_are [] bytes all is = subst AreBytes (sym is) no_bytes
   packed_are (m ∷ ms) bytes all (b, rest, spells, is, more) =
-      let body : AreBytes b = spelled_are p.schema (placed p (tree m)) (cell_shape p kind.cell) b spells (renamed_holds (number_at p.places) (tree m) all.0) in
+      let body : AreBytes b = spelled_are p.schema (placed p (tree m)) (cell_shape p kind.cell) b spells (renamed_holds (number_at p.indexes) (tree m) all.0) in
       subst AreBytes (sym is) (bytes_joined (packet b) rest (bytes_joined (word (length b)) b (words.bytes (length b)) body) (packed_are ms rest all.1 more))

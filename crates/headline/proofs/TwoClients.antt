@@ -10,7 +10,7 @@ use Rattle.box_world.specs.Streams.{Doing, Past, dates, first_past, past_of}
 use Rattle.box_world.proofs.ChannelReplying.{end_is}
 use Rattle.box_world.proofs.Streams.{ordered}
 use Rattle.box_world.proofs.Ticking.{stands_at}
-use Rattle.wire_profile.specs.Places.{ProfileView}
+use Rattle.wire_profile.specs.Indexes.{ProfileView}
 use Rattle.wire_profile.specs.Profiles.{IsProfile}
 use Rattle.fault_lines.specs.Profiled.{IsProfileText}
 use Rattle.session_commands.specs.Linked.{next_link}

@@ -2,7 +2,7 @@
 use Rattle.std.specs.Prelude.{◌≡◌, ◌≤◌, ℕ, ℤ, List, ◌++◌, length, Some}
 use Rattle.tl_base.specs.Outside.{View, HasFile}
 use Rattle.box_events.specs.declared.replies.Frame.{Frame}
-use Rattle.wire_profile.specs.Places.{ProfileView}
+use Rattle.wire_profile.specs.Indexes.{ProfileView}
 use Rattle.channel_box.specs.States.{ids_of}
 use Rattle.box_client.specs.States.{ClientState}
 use Rattle.box_world.specs.Streams.{Doing, Honest, begun}

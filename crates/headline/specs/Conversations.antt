@@ -14,7 +14,7 @@ use Rattle.box_server.specs.Servers.{ServerState, dated_at}
 use Rattle.box_world.specs.Agreeing.{Agrees}
 use Rattle.box_world.specs.Streams.{Doing, dates, past_of}
 use Rattle.wire_forms.specs.IsOf.{IsLong}
-use Rattle.wire_profile.specs.Places.{ProfileView}
+use Rattle.wire_profile.specs.Indexes.{ProfileView}
 use Rattle.wire_profile.specs.Profiles.{IsProfile}
 use Rattle.update_sessions.specs.declared.fault.TheConstants.{MAX_FRAMES}
 use Rattle.session_commands.specs.Client.{HasClient, watch_all}

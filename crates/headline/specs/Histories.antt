@@ -6,7 +6,7 @@ use Rattle.box_server.specs.Sound.{IsSound}
 use Rattle.box_server.specs.declared.entry.Entry.{Entry}
 use Rattle.box_server.specs.Rebuilding.{Rebuilds, rebuilt}
 use Rattle.box_world.specs.Streams.{Doing, dates, past_of, posts}
-use Rattle.wire_profile.specs.Places.{ProfileView}
+use Rattle.wire_profile.specs.Indexes.{ProfileView}
 use Rattle.wire_profile.specs.Profiles.{IsProfile}
 use Rattle.session_commands.specs.Serve.{IsAny, Sessions, Total}
 use Rattle.headline.specs.ReadHistories.{WereRead}

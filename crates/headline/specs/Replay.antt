@@ -4,7 +4,7 @@ use Rattle.tl_base.specs.Outside.{View, HasFile}
 use Rattle.tl_schema.specs.Schemas.{Declared}
 use Rattle.box_events.specs.declared.steps.Step.{Step}
 use Rattle.wire_profile.specs.Faults.{FaultView, IsAnswer}
-use Rattle.wire_profile.specs.Places.{ProfileView}
+use Rattle.wire_profile.specs.Indexes.{ProfileView}
 use Rattle.update_replay.specs.Endings.{Ending, whole}
 use Rattle.update_replay.specs.Replays.{Replayed}
 use Rattle.outside.specs.Answer.{Answer, refused}

@@ -1,7 +1,7 @@
 -- The report of a replay. This project's own.
 use Rattle.std.specs.Prelude.{◌≡◌, ◌≤◌, ℕ, List, [], ◌∷◌, ◌++◌, length, Some, slice_get}
 use Rattle.box_events.specs.declared.steps.Step.{Step}
-use Rattle.wire_profile.specs.Places.{ProfileView}
+use Rattle.wire_profile.specs.Indexes.{ProfileView}
 use Rattle.wire_values.specs.Steps.{step_tree}
 use Rattle.box_wire.specs.Framing.{Means}
 use Rattle.box_wire.specs.Kinds.{steps as step_kind}

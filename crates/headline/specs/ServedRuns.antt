@@ -2,7 +2,7 @@
 use Rattle.std.specs.Prelude.{◌≡◌, ℕ, ◌+◌, ◌<◌, ◌≤◌, ℤ, List, [], ◌∷◌, ◌++◌, length, get_or}
 use Rattle.tl_numbers.specs.Bytes.{AreBytes}
 use Rattle.tl_base.specs.Outside.{View, HasFile}
-use Rattle.wire_profile.specs.Places.{ProfileView}
+use Rattle.wire_profile.specs.Indexes.{ProfileView}
 use Rattle.wire_values.specs.SavedClients.{saved_tree}
 use Rattle.box_wire.specs.Framing.{Framed}
 use Rattle.box_wire.specs.Kinds.{saved_clients}

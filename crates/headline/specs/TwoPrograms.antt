@@ -9,7 +9,7 @@ use Rattle.box_server.specs.Servers.{ServerState, dated_at}
 use Rattle.box_server.specs.Sound.{IsSound}
 use Rattle.box_world.specs.Agreeing.{Agrees}
 use Rattle.box_world.specs.Streams.{Doing, Honest, begun, dates, past_of}
-use Rattle.wire_profile.specs.Places.{ProfileView}
+use Rattle.wire_profile.specs.Indexes.{ProfileView}
 use Rattle.wire_profile.specs.Profiles.{IsProfile}
 use Rattle.update_sessions.specs.Heard.{Hears}
 use Rattle.update_sessions.specs.Honest.{told_all}

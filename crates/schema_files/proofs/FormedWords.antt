@@ -2,7 +2,7 @@
 use Rattle.std.proofs.Common.{ℕ, ◌<◌, List, true≢false, sym, subst}
 use Rattle.tl_program.specs.Trees.{Tree, named, percent, any_call}
 use Rattle.tl_names.specs.Parts.{IsPart}
-use Rattle.tl_names.specs.Places.{variable_of}
+use Rattle.tl_names.specs.Indexes.{variable_of}
 use Rattle.tl_names.proofs.HeadNames.{type_name}
 use Rattle.tl_schema.specs.UnknownVariable.{NamesVariable}
 use Rattle.tl_schema.specs.Types.{Shape}

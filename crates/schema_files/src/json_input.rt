@@ -29,7 +29,7 @@ fn form_error(alloc: Global, path: &[u32], cause: FormCause) -> LoadError
 }
 
 // What is told of JSON of a value that doesn't fit.
-fn misfit_unmade(alloc: Global, path: &[u32], cause: MisfitCause) -> LoadError
+fn misfit_error(alloc: Global, path: &[u32], cause: MisfitCause) -> LoadError
     ensures { RefusesAs (json_line (Misfit path.now cause)) result }
 {
     match misfit_text(alloc, path, cause) {
@@ -39,17 +39,17 @@ fn misfit_unmade(alloc: Global, path: &[u32], cause: MisfitCause) -> LoadError
 }
 
 /// What is told of JSON of a value that doesn't fit, or that memory was out.
-pub fn fit_unmade(alloc: Global, fault: &FitFault) -> LoadError
+pub fn fit_error(alloc: Global, fault: &FitFault) -> LoadError
     ensures { TellsUnfit fault.now result }
 {
     match fault {
-        FitFault::Misfit(misfit) => misfit_unmade(alloc, &misfit.path, misfit.cause),
+        FitFault::Misfit(misfit) => misfit_error(alloc, &misfit.path, misfit.cause),
         FitFault::Memory => LoadError::Memory,
     }
 }
 
 // What is told of a text that is the form of no value.
-fn json_unmade(alloc: Global, fault: &JsonTextFault) -> LoadError
+fn json_error(alloc: Global, fault: &JsonTextFault) -> LoadError
     ensures { TellsNoForm fault.now result }
 {
     match fault {
@@ -75,7 +75,7 @@ pub fn form_by(
     }
     match keys.read(alloc, schema, of, text) {
         Ok(value) => Ok(value),
-        Err(fault) => Err(json_unmade(alloc, &fault)),
+        Err(fault) => Err(json_error(alloc, &fault)),
     }
 }
 

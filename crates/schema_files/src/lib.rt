@@ -9,7 +9,7 @@ mod text;
 mod type_plan;
 mod type_word;
 
-pub use json_input::{JSON_BYTES, fit_unmade, form_by, formed_value};
+pub use json_input::{JSON_BYTES, fit_error, form_by, formed_value};
 pub use lines::cause_text;
 pub use schema_text::{SCHEMA_BYTES, schema_of};
 pub use shown::{line_by, printed_line, put_line, value_line};

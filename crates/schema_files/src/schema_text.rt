@@ -3,7 +3,7 @@ ghost use Rattle.schema_files.specs.Parts.{ReadsSchema};
 ghost use Rattle.schema_files.specs.inner.Tellings.{TellsCheck};
 
 use crate::lines::check_name;
-use crate::text::{lex_unmade, syntax_unmade};
+use crate::text::{lex_error, syntax_error};
 use outside::LoadError;
 use std::alloc::Global;
 use tl_combinators::parse;
@@ -16,7 +16,7 @@ pub const SCHEMA_BYTES: u32 = 4_194_304;
 const _: () = prove!(SCHEMA_BYTES as usize == TEXT_LIMIT);
 
 // What is told of a program that is no schema.
-fn check_unmade(alloc: Global, what: &str, fault: CheckFault) -> LoadError
+fn check_error(alloc: Global, what: &str, fault: CheckFault) -> LoadError
     ensures { TellsCheck what.now fault result }
 {
     match fault {
@@ -33,14 +33,14 @@ pub fn schema_of(alloc: Global, what: &str, text: &[u8]) -> Result<Schema, LoadE
 {
     let tokens = match lex(alloc, text) {
         Ok(tokens) => tokens,
-        Err(fault) => return Err(lex_unmade(alloc, what, fault)),
+        Err(fault) => return Err(lex_error(alloc, what, fault)),
     };
     let program = match parse(alloc, text, &tokens) {
         Ok(program) => program,
-        Err(fault) => return Err(syntax_unmade(alloc, what, fault)),
+        Err(fault) => return Err(syntax_error(alloc, what, fault)),
     };
     match check(alloc, &program) {
         Ok(schema) => Ok(schema),
-        Err(fault) => Err(check_unmade(alloc, what, fault)),
+        Err(fault) => Err(check_error(alloc, what, fault)),
     }
 }

@@ -11,7 +11,7 @@ use tl_combinators::{SyntaxFault, UnsupportedForm};
 use tl_lexer::LexFault;
 
 /// What is told of a text without tokens.
-pub fn lex_unmade(alloc: Global, what: &str, fault: LexFault) -> LoadError
+pub fn lex_error(alloc: Global, what: &str, fault: LexFault) -> LoadError
     ensures { TellsLex what.now fault result }
 {
     match fault {
@@ -23,7 +23,7 @@ pub fn lex_unmade(alloc: Global, what: &str, fault: LexFault) -> LoadError
 }
 
 /// What is told of tokens that are refused.
-pub fn syntax_unmade(alloc: Global, what: &str, fault: SyntaxFault) -> LoadError
+pub fn syntax_error(alloc: Global, what: &str, fault: SyntaxFault) -> LoadError
     ensures { TellsSyntax what.now fault result }
 {
     match fault {

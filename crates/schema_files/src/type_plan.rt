@@ -11,7 +11,7 @@ use tl_plan::{Plan, PlanFault, plan};
 use tl_schema::{Schema, TypeRef};
 
 // What is told of a type without a plan.
-fn plan_unmade(alloc: Global, fault: PlanFault) -> LoadError
+fn plan_error(alloc: Global, fault: PlanFault) -> LoadError
     ensures { TellsNoPlan fault result }
 {
     match fault {
@@ -28,6 +28,6 @@ pub fn plan_of<'s>(alloc: Global, schema: &'s Schema, of: &TypeRef) -> Result<Pl
 {
     match plan(alloc, schema, from_ref(of)) {
         Ok(plan) => Ok(plan),
-        Err(fault) => Err(plan_unmade(alloc, fault)),
+        Err(fault) => Err(plan_error(alloc, fault)),
     }
 }

@@ -6,18 +6,18 @@ ghost use Rattle.schema_files.specs.Parts.{MeansType};
 ghost use Rattle.schema_files.specs.inner.Tellings.{TellsNoType};
 
 use crate::lines::type_cause_name;
-use crate::text::{lex_unmade, syntax_unmade};
+use crate::text::{lex_error, syntax_error};
 use outside::LoadError;
 use std::alloc::Global;
 use tl_schema::{Schema, TypeFault, TypeRef, type_of};
 
 // What is told of a word that is no type.
-fn type_unmade(alloc: Global, fault: TypeFault) -> LoadError
+fn type_error(alloc: Global, fault: TypeFault) -> LoadError
     ensures { TellsNoType fault result }
 {
     match fault {
-        TypeFault::Lex(fault) => lex_unmade(alloc, "type", fault),
-        TypeFault::Syntax(fault) => syntax_unmade(alloc, "type", fault),
+        TypeFault::Lex(fault) => lex_error(alloc, "type", fault),
+        TypeFault::Syntax(fault) => syntax_error(alloc, "type", fault),
         TypeFault::Refused { cause } => LoadError::unplaced(alloc, "type", type_cause_name(cause)),
         TypeFault::Memory => LoadError::Memory,
     }
@@ -30,7 +30,7 @@ pub fn type_spelled(alloc: Global, schema: &Schema, text: &[u8]) -> Result<TypeR
 {
     match type_of(alloc, schema, text) {
         Ok(of) => Ok(of),
-        Err(fault) => Err(type_unmade(alloc, fault)),
+        Err(fault) => Err(type_error(alloc, fault)),
     }
 }
 

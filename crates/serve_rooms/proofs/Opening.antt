@@ -14,7 +14,7 @@ use Rattle.outside.specs.Begun.{Did}
 use Rattle.outside.specs.Steps.{StepOf, Calls}
 use Rattle.outside.proofs.Growing.{grew_none}
 use Rattle.session_commands.specs.Keep.{Starts, IsBadEntry, bad_entry_line}
-use Rattle.wire_profile.specs.Places.{ProfileView}
+use Rattle.wire_profile.specs.Indexes.{ProfileView}
 use Rattle.outside.specs.declared.status.Status.{Status}
 use Rattle.outside.specs.declared.status.Status.TheVariants.{Refused}
 use Rattle.serve_rooms.specs.Acts.{Act, Loading, rebuilds, unaccepted, unread, loaded, Agrees, IsKeeperFault, IsSure, KeeperGrew, KeptState, beside}

@@ -7,7 +7,7 @@ use Rattle.tl_base.specs.Outside.{View, written_of}
 use Rattle.tl_base.specs.declared.host.Out.TheVariants as outs
 use Rattle.box_server.specs.Servers.{ServerState}
 use Rattle.box_server.specs.declared.entry.Entry.{Entry}
-use Rattle.wire_profile.specs.Places.{ProfileView}
+use Rattle.wire_profile.specs.Indexes.{ProfileView}
 use Rattle.outside.specs.Answer.{Answer, link_fault_line, write_fault_line}
 use Rattle.outside.specs.Kept.{Leaves}
 use Rattle.outside.specs.declared.status.Status.{Status}

@@ -5,7 +5,7 @@ use Rattle.tl_base.specs.declared.host.Slot.TheVariants as slots
 use Rattle.box_events.specs.declared.requests.Numbered.{Numbered}
 use Rattle.box_server.specs.Servers.{ServerState}
 use Rattle.box_server.specs.declared.entry.Entry.{Entry}
-use Rattle.wire_profile.specs.Places.{ProfileView}
+use Rattle.wire_profile.specs.Indexes.{ProfileView}
 use Rattle.outside.specs.Events.{Event, took, ended, read_failed, put, write_failed}
 use Rattle.outside.specs.Laws.{Throughout, Keeps}
 use Rattle.outside.specs.Packets.{PacketView, whole, TakesPacket}

@@ -6,7 +6,7 @@ use Rattle.tl_base.specs.Causes.{Rose}
 use Rattle.tl_schema.specs.CheckedPrograms.{IsSchema}
 use Rattle.tl_schema.specs.Schemas.{Declared}
 use Rattle.wire_profile.specs.Faults.{IsAnswer}
-use Rattle.wire_profile.specs.Places.{ProfileView}
+use Rattle.wire_profile.specs.Indexes.{ProfileView}
 use Rattle.box_server.specs.Servers.{ServerState, new_server}
 use Rattle.box_server.specs.Keeping.{nothing_kept}
 use Rattle.outside.specs.Answer.{refused}

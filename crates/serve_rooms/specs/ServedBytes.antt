@@ -6,7 +6,7 @@ use Rattle.tl_base.specs.declared.host.Slot.TheVariants as slots
 use Rattle.box_events.specs.declared.requests.Numbered.{Numbered}
 use Rattle.box_server.specs.Servers.{ServerState}
 use Rattle.box_server.specs.declared.entry.Entry.{Entry}
-use Rattle.wire_profile.specs.Places.{ProfileView}
+use Rattle.wire_profile.specs.Indexes.{ProfileView}
 use Rattle.outside.specs.Answer.{Answer}
 use Rattle.outside.specs.Kept.{Leaves}
 use Rattle.outside.specs.declared.status.Status.{Status}

@@ -2,7 +2,7 @@
 -- taken. This project's own.
 use Rattle.std.specs.Prelude.{ℕ, ◌+◌, ltb, List, codes, Bool, true, false}
 use Rattle.box_server.specs.Servers.{ServerState, dated_at}
-use Rattle.wire_profile.specs.Places.{ProfileView}
+use Rattle.wire_profile.specs.Indexes.{ProfileView}
 use Rattle.outside.specs.Answer.{link_fault_line}
 use Rattle.outside.specs.declared.status.Status.TheVariants.{LinkFault}
 use Rattle.outside.specs.Events.{listened, accepted, told}

@@ -5,7 +5,7 @@ ghost use Rattle.outside.specs.Packets.{packet_view};
 ghost use Rattle.outside.specs.Begun.{Did};
 ghost use Rattle.session_rooms.specs.Sending.{Sends};
 ghost use Rattle.update_sessions.specs.Packed.{Packed, SpellsFrame};
-ghost use Rattle.wire_profile.specs.Places.{ProfileView};
+ghost use Rattle.wire_profile.specs.Indexes.{ProfileView};
 ghost use Rattle.wire_profile.specs.Profiles.{IsProfile};
 ghost use Rattle.serve_rooms.specs.Acts.{beside};
 ghost use Rattle.serve_rooms.specs.Answering.{AnswersAll, AnswersBytes, AnswersNext, after_packet};

@@ -31,7 +31,7 @@ use Rattle.box_client.specs.declared.loading.TheConstants.{MAX_NEXT}
 use Rattle.box_client.proofs.Loadings.{lanes_of, next_of}
 use Rattle.box_client.proofs.Orders.{sorted_of}
 use Rattle.wire_forms.specs.IsOf.{IsLong, IsText}
-use Rattle.wire_profile.specs.Places.{ProfileView}
+use Rattle.wire_profile.specs.Indexes.{ProfileView}
 use Rattle.wire_profile.specs.Profiles.{IsProfile}
 use Rattle.wire_values.specs.Carried.{FitsSaved, IsLane, IsSaved, IsSavedChannel}
 use Rattle.wire_values.specs.CarriedFrames.{FitsEvent}

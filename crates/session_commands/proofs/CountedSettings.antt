@@ -13,7 +13,7 @@ use Rattle.wire_forms.specs.IsOf.{AreOf, EachOf, IsOf}
 use Rattle.wire_forms.specs.Parts.{at, each, entry_of, first, parts_of}
 use Rattle.wire_forms.proofs.Cells.{bare_are, field_at, many_are}
 use Rattle.wire_forms.proofs.Records.{by_member, length_each, opened, opened_bare}
-use Rattle.wire_profile.specs.Places.{ProfileView}
+use Rattle.wire_profile.specs.Indexes.{ProfileView}
 use Rattle.wire_profile.specs.Profiles.{IsProfile}
 use Rattle.wire_profile.specs.SpelledForms.{owned}
 use Rattle.wire_values.specs.Carried.{IsSaved}

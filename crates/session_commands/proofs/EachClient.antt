@@ -24,7 +24,7 @@ use Rattle.box_client.specs.declared.fault.LoadFault.TheVariants as load
 use Rattle.box_world.specs.Streams.{begun}
 use Rattle.wire_profile.specs.declared.wire_fault.WireFault.{WireFault}
 use Rattle.wire_forms.specs.IsOf.{IsLong}
-use Rattle.wire_profile.specs.Places.{ProfileView}
+use Rattle.wire_profile.specs.Indexes.{ProfileView}
 use Rattle.wire_profile.specs.Profiles.{IsProfile}
 use Rattle.wire_values.specs.Calls.{call_in, call_tree}
 use Rattle.wire_values.specs.Carried.{FitsCall, FitsSaved, IsSaved}

@@ -29,7 +29,7 @@ use Rattle.box_events.specs.declared.replies.Frame.{Frame}
 use Rattle.box_events.specs.declared.replies.Frame.TheVariants.{Push, Reply}
 use Rattle.wire_profile.specs.declared.wire_fault.WireFault.{WireFault}
 use Rattle.wire_profile.specs.declared.wire_fault.WireFault.TheVariants as wire
-use Rattle.wire_profile.specs.Places.{ProfileView, cell_shape}
+use Rattle.wire_profile.specs.Indexes.{ProfileView, cell_shape}
 use Rattle.wire_profile.specs.Profiles.{IsProfile}
 use Rattle.wire_profile.specs.SpelledForms.{owned}
 use Rattle.wire_profile.proofs.OwnValues.{own_of}

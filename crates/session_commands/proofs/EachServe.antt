@@ -23,7 +23,7 @@ use Rattle.box_server.proofs.NewServers.{sound_new}
 use Rattle.box_server.proofs.Soundness.{dated_sound, post_sound, posted_sound}
 use Rattle.box_server.specs.declared.entry.Entry.{Entry}
 use Rattle.wire_profile.specs.declared.wire_fault.WireFault.{WireFault}
-use Rattle.wire_profile.specs.Places.{ProfileView}
+use Rattle.wire_profile.specs.Indexes.{ProfileView}
 use Rattle.wire_profile.specs.Profiles.{IsProfile}
 use Rattle.wire_values.specs.Calls.{call_in, call_tree}
 use Rattle.wire_values.specs.Carried.{FitsCall, FitsPost, FitsRequest}

@@ -19,7 +19,7 @@ use Rattle.box_client.specs.States.{ClientState}
 use Rattle.box_client.proofs.GivenOnce.{next_past, pushed_next}
 use Rattle.box_world.specs.Worlds.{after_reply}
 use Rattle.wire_forms.specs.IsOf.{IsInt}
-use Rattle.wire_profile.specs.Places.{ProfileView}
+use Rattle.wire_profile.specs.Indexes.{ProfileView}
 use Rattle.wire_profile.specs.Profiles.{IsProfile}
 use Rattle.wire_values.specs.Carried.{FitsCall, FitsSaved}
 use Rattle.wire_values.specs.CarriedFrames.{FitsFrame, IsFrame}

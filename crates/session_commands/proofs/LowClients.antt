@@ -331,14 +331,14 @@ woven_low d c b (Err cause) p e is word h x y = absurd cc
 woven_low d c b (Ok xs) (Err cause) e is word h x y = absurd cc
 woven_low d c b (Ok xs) (Ok ys) e is word h x y = taken_low d (b.last && ltb b.state.seq c.settings.at) c b xs ys e is (λ back last. not_back b.last b.state.seq c.settings.at back last) word h (x xs refl) (y ys refl)
 
-record IsBrought (b : Received) : Type 0 where
+record IsReceived (b : Received) : Type 0 where
   common : b.state.pts ≤ MAX_END
   secret : b.state.qts ≤ MAX_END
   seq : IsWord b.state.seq
   are : AreOthers b.others
   counted : AreCountedOthers b.others
 
-brings_low : (d : ℕ) (c : ClientState) (b : Received) (e : ClientState) → brings c b ≡ becomes e → LowClient d c → IsBrought b → LowClient (d + length b.settings) e
+brings_low : (d : ℕ) (c : ClientState) (b : Received) (e : ClientState) → brings c b ≡ becomes e → LowClient d c → IsReceived b → LowClient (d + length b.settings) e
 brings_low d c b e is h f =
     woven_low d c b (woven_of c.common.at b.state.pts b.news b.others) (woven_of c.secret.at b.state.qts b.secrets []) e is f.seq h
     (λ xs same. lane_woven c.common b.state.pts b.news b.others b.last xs same f.common f.are f.counted h.common) (λ ys same. lane_woven c.secret b.state.qts b.secrets [] b.last ys same f.secret tt tt h.secret)

@@ -9,7 +9,7 @@ use Rattle.tl_types.proofs.Exactly.{exactly_one}
 use Rattle.tl_types.proofs.Numbers.{bytes_after}
 use Rattle.box_events.specs.declared.replies.Frame.{Frame}
 use Rattle.wire_profile.specs.declared.wire_fault.WireFault.{WireFault}
-use Rattle.wire_profile.specs.Places.{ProfileView, cell_shape}
+use Rattle.wire_profile.specs.Indexes.{ProfileView, cell_shape}
 use Rattle.wire_profile.specs.Profiles.{IsProfile}
 use Rattle.wire_values.specs.CarriedFrames.{IsFrame}
 use Rattle.wire_values.specs.Frames.{frame_in, frame_tree}

@@ -5,7 +5,7 @@ use Rattle.box_server.specs.Servers.{ServerState, dated_at, new_server}
 use Rattle.box_server.specs.declared.entry.Entry.{Entry}
 use Rattle.box_server.specs.Rebuilding.{Rebuilds, rebuilt}
 use Rattle.box_server.proofs.Rebuilt.{one_server}
-use Rattle.wire_profile.specs.Places.{ProfileView}
+use Rattle.wire_profile.specs.Indexes.{ProfileView}
 use Rattle.update_sessions.specs.Kept.{kept_in}
 use Rattle.update_sessions.specs.Served.{Serves}
 use Rattle.update_sessions.proofs.KeptCalls.{sessions_keep_dates}

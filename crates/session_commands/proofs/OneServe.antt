@@ -3,7 +3,7 @@ use Rattle.std.proofs.Common.{◌≡◌, ℕ, List, sym, ap, ◌∙◌}
 use Rattle.tl_numbers.specs.Bytes.{ListsOfBytes}
 use Rattle.tl_base.specs.Contents.{Files}
 use Rattle.box_server.specs.Servers.{ServerState, new_server}
-use Rattle.wire_profile.specs.Places.{ProfileView}
+use Rattle.wire_profile.specs.Indexes.{ProfileView}
 use Rattle.wire_profile.specs.Profiles.{IsProfile}
 use Rattle.outside.specs.Answer.{Answer}
 use Rattle.fault_lines.proofs.Profiled.{one_profiled}

@@ -8,7 +8,7 @@ use Rattle.box_client.specs.Loads.{IsCauseOf}
 use Rattle.box_client.specs.Saving.{LoadCause, bad_next, bad_lane, bad_settings, bad_channels, client_loaded, load_cause}
 use Rattle.box_client.specs.States.{ClientState}
 use Rattle.wire_profile.specs.declared.wire_fault.WireFault.{WireFault}
-use Rattle.wire_profile.specs.Places.{ProfileView}
+use Rattle.wire_profile.specs.Indexes.{ProfileView}
 use Rattle.wire_profile.specs.Profiles.{IsProfile}
 use Rattle.wire_values.specs.Carried.{IsSaved}
 use Rattle.wire_values.specs.SavedClients.{saved_in, saved_tree}

@@ -3,7 +3,7 @@ use Rattle.std.proofs.Common.{◌≡◌, ℕ, zero, suc, ◌+◌, ◌≤◌, Lis
 use Rattle.tl_numbers.specs.Bytes.{AreBytes, ListsOfBytes}
 use Rattle.box_server.specs.Servers.{ServerState}
 use Rattle.box_server.specs.declared.entry.Entry.{Entry}
-use Rattle.wire_profile.specs.Places.{ProfileView}
+use Rattle.wire_profile.specs.Indexes.{ProfileView}
 use Rattle.wire_profile.specs.Profiles.{IsProfile}
 use Rattle.session_commands.specs.Serve.{SessionEnd, Session, IsWhole, IsAny, end_output, Total, Sessions, with_session}
 use Rattle.session_commands.proofs.OneServed.{one_session}

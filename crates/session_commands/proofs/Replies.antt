@@ -15,7 +15,7 @@ use Rattle.box_events.specs.declared.replies.Frame.{Frame}
 use Rattle.wire_forms.specs.Forms.{constructs, forms}
 use Rattle.wire_forms.specs.declared.numbers.TheConstants.{FRAME_TYPE, PUSH}
 use Rattle.wire_profile.specs.declared.wire_fault.WireFault.{WireFault}
-use Rattle.wire_profile.specs.Places.{ProfileView, cell_shape, number_at}
+use Rattle.wire_profile.specs.Indexes.{ProfileView, cell_shape, number_at}
 use Rattle.wire_profile.specs.Profiles.{IsProfile}
 use Rattle.wire_profile.proofs.FormTable.{member_form}
 use Rattle.wire_profile.proofs.ProfileFacts.{is_member}
@@ -72,7 +72,7 @@ made = refl
 -- the declaration of a push
 record PushAt (p : ProfileView) : Type 0 where
   d : Declaration
-  there : slice_get p.schema.decls (number_at p.places PUSH) ≡ Some d
+  there : slice_get p.schema.decls (number_at p.indexes PUSH) ≡ Some d
   head : d.head ≡ number_at p.heads FRAME_TYPE
 
 push_at : (p : ProfileView) → IsProfile p → PushAt p
@@ -81,18 +81,18 @@ push_at p good = let f = member_form FRAME_TYPE PUSH made in let m = is_member p
 some_is : {A : Type 0} (x y : A) → Some x ≡ Some y → x ≡ y
 some_is x y e = cc
 
-pub push_there : (p : ProfileView) → IsProfile p → (d : Declaration) × (slice_get p.schema.decls (number_at p.places PUSH) ≡ Some d)
+pub push_there : (p : ProfileView) → IsProfile p → (d : Declaration) × (slice_get p.schema.decls (number_at p.indexes PUSH) ≡ Some d)
 push_there p good = let h = push_at p good in (h.d, h.there)
 
-pub push_within : (p : ProfileView) → IsProfile p → (S : Declared) (k : ℕ) → S ≡ p.schema → k ≡ number_at p.places PUSH → k < length S.decls
+pub push_within : (p : ProfileView) → IsProfile p → (S : Declared) (k : ℕ) → S ≡ p.schema → k ≡ number_at p.indexes PUSH → k < length S.decls
 push_within p good S k same at =
     let h = push_there p good in
     slice_get_within S.decls k h.0 (ap₂ (λ (X : Declared) (i : ℕ). slice_get X.decls i) same at ∙ h.1)
 
-pub head_is : (p : ProfileView) → IsProfile p → (S : Declared) (k : ℕ) (d : Declaration) → S ≡ p.schema → k ≡ number_at p.places PUSH → slice_get S.decls k ≡ Some d → d.head ≡ number_at p.heads FRAME_TYPE
+pub head_is : (p : ProfileView) → IsProfile p → (S : Declared) (k : ℕ) (d : Declaration) → S ≡ p.schema → k ≡ number_at p.indexes PUSH → slice_get S.decls k ≡ Some d → d.head ≡ number_at p.heads FRAME_TYPE
 head_is p good S k d same at there =
     let h = push_at p good in
-    let here : slice_get p.schema.decls (number_at p.places PUSH) ≡ Some d = sym (ap₂ (λ (X : Declared) (i : ℕ). slice_get X.decls i) same at) ∙ there in
+    let here : slice_get p.schema.decls (number_at p.indexes PUSH) ≡ Some d = sym (ap₂ (λ (X : Declared) (i : ℕ). slice_get X.decls i) same at) ∙ there in
     ap (λ (x : Declaration). x.head) (some_is d h.d (sym here ∙ h.there)) ∙ h.head
 
 -- ---- the value

@@ -9,7 +9,7 @@ use Rattle.box_client.specs.Saving.{bad_next}
 use Rattle.box_client.specs.States.{ClientState}
 use Rattle.box_client.proofs.Loadings.{next_is_bad}
 use Rattle.wire_profile.specs.declared.wire_fault.WireFault.{WireFault}
-use Rattle.wire_profile.specs.Places.{ProfileView}
+use Rattle.wire_profile.specs.Indexes.{ProfileView}
 use Rattle.box_wire.specs.Framing.{WireRefused}
 use Rattle.box_wire.specs.Kinds.{saved_clients}
 use Rattle.outside.specs.Jobs.{RefusedBy}

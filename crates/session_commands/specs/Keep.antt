@@ -7,7 +7,7 @@ use Rattle.box_server.specs.declared.entry.Entry.{Entry}
 use Rattle.box_server.specs.Keeping.{with_more}
 use Rattle.box_server.specs.Rebuilding.{IsBad, are_right, rebuilt}
 use Rattle.box_server.specs.Storing.{Tells}
-use Rattle.wire_profile.specs.Places.{ProfileView}
+use Rattle.wire_profile.specs.Indexes.{ProfileView}
 use Rattle.update_sessions.specs.declared.fault.TheConstants.{MAX_FRAMES}
 use Rattle.update_sessions.specs.Kept.{RoomFor}
 use Rattle.outside.specs.Answer.{placed_line, refused}

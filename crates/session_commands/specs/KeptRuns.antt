@@ -3,7 +3,7 @@ use Rattle.std.specs.Prelude.{◌≡◌, ℕ, ◌<◌, ◌≤◌, List, [], ◌�
 use Rattle.box_server.specs.Servers.{new_server}
 use Rattle.box_server.specs.declared.entry.Entry.{Entry}
 use Rattle.box_server.specs.Rebuilding.{Rebuilds, rebuilt}
-use Rattle.wire_profile.specs.Places.{ProfileView}
+use Rattle.wire_profile.specs.Indexes.{ProfileView}
 use Rattle.session_commands.specs.Serve.{IsWhole, Sessions, Total}
 
 -- a run: what its links give, the moments of its sessions, and what these came to

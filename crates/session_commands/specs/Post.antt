@@ -15,7 +15,7 @@ use Rattle.box_events.specs.declared.replies.Frame.{Frame}
 use Rattle.box_events.specs.declared.replies.Frame.TheVariants.{Push, Reply}
 use Rattle.box_events.specs.declared.requests.Numbered.{Numbered}
 use Rattle.wire_profile.specs.declared.wire_fault.WireFault.{WireFault}
-use Rattle.wire_profile.specs.Places.{ProfileView, cell_shape}
+use Rattle.wire_profile.specs.Indexes.{ProfileView, cell_shape}
 use Rattle.box_wire.specs.Kinds.{calls, frames}
 use Rattle.box_wire.specs.Framing.{SpellsWhole, WireRefused}
 use Rattle.update_sessions.specs.Packed.{MeansCall, MeansFrame}

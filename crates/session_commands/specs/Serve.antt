@@ -7,7 +7,7 @@ use Rattle.tl_base.specs.Outside.{View, IsFile}
 use Rattle.box_events.specs.declared.requests.Numbered.{Numbered}
 use Rattle.box_server.specs.Servers.{ServerState, new_server, dated_at}
 use Rattle.box_server.specs.declared.entry.Entry.{Entry}
-use Rattle.wire_profile.specs.Places.{ProfileView}
+use Rattle.wire_profile.specs.Indexes.{ProfileView}
 use Rattle.update_sessions.specs.declared.fault.SessionFault.{SessionFault}
 use Rattle.update_sessions.specs.declared.fault.SessionFault.TheVariants as fault
 use Rattle.update_sessions.specs.Kept.{kept_in}

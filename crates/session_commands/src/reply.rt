@@ -9,7 +9,7 @@ ghost use Rattle.tl_types.specs.Spelling.{Spells};
 ghost use Rattle.tl_types.specs.Values.{ValueView, depth};
 ghost use Rattle.tl_types.specs.declared.value.TheConstants.{MAX_LEVELS};
 ghost use Rattle.wire_forms.specs.declared.numbers.TheConstants.{FRAME_TYPE};
-ghost use Rattle.wire_profile.specs.Places.{cell_shape, number_at};
+ghost use Rattle.wire_profile.specs.Indexes.{cell_shape, number_at};
 ghost use Rattle.box_wire.specs.Framing.{SpellsWhole};
 ghost use Rattle.box_wire.specs.Kinds.{frames};
 ghost use Rattle.fault_lines.specs.Messages.{wire_line};
@@ -104,7 +104,7 @@ fn frame_type(alloc: Global, profile: &Profile) -> TypeRef
 fn frame_head(profile: &Profile) -> u32
     ensures { result ≡ number_at profile.now.heads FRAME_TYPE }
 {
-    profile.schema().entry(profile.place(PUSH)).head
+    profile.schema().entry(profile.index(PUSH)).head
 }
 
 // The boxed type with this number, which takes no arguments.

@@ -12,7 +12,7 @@ use Rattle.box_client.specs.States.{ClientState}
 use Rattle.box_client.specs.declared.fault.ClientFault.{ClientFault}
 use Rattle.fault_lines.specs.Answers.{answer_line}
 use Rattle.box_client.specs.Asking.{ticks, wakes, is_one_asking}
-use Rattle.wire_profile.specs.Places.{ProfileView}
+use Rattle.wire_profile.specs.Indexes.{ProfileView}
 use Rattle.outside.specs.Answer.{done, link_fault_line, memory_line, refused, write_fault_line}
 use Rattle.outside.specs.declared.status.Status.{Status}
 use Rattle.outside.specs.declared.status.Status.TheVariants.{LinkFault, Memory, PeerFault, ReadFault, WriteFault}

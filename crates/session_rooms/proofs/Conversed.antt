@@ -15,7 +15,7 @@ use Rattle.update_sessions.specs.declared.fault.SessionFault.TheVariants as sess
 use Rattle.update_sessions.specs.declared.fault.TheConstants.{MAX_FRAMES}
 use Rattle.update_sessions.specs.Hearing.{hears}
 use Rattle.update_sessions.specs.Packed.{SpellsCall}
-use Rattle.wire_profile.specs.Places.{ProfileView}
+use Rattle.wire_profile.specs.Indexes.{ProfileView}
 use Rattle.session_rooms.specs.Conversing.{Outcome, Asks, after_asking, HearsBytes, no_frame, refused, heard, after_packet, HearsNext, Heard, turn_of, hears_by, HearsOn, after_begin, Converses}
 use Rattle.session_rooms.proofs.SentMessages.{keeps_send}
 

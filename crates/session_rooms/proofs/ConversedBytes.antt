@@ -9,7 +9,7 @@ use Rattle.box_events.specs.declared.replies.Frame.{Frame}
 use Rattle.box_client.specs.Asking.{ticks, wakes, is_one_asking}
 use Rattle.box_client.specs.States.{ClientState}
 use Rattle.box_world.specs.Streams.{begun}
-use Rattle.wire_profile.specs.Places.{ProfileView}
+use Rattle.wire_profile.specs.Indexes.{ProfileView}
 use Rattle.outside.specs.Events.{Event, Outside, put, write_failed}
 use Rattle.outside.specs.Packets.{PacketView, whole, TakesPacket}
 use Rattle.outside.specs.Packets as packets

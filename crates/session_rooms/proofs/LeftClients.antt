@@ -2,7 +2,7 @@
 use Rattle.std.proofs.Common.{◌≡◌, ℕ, List, [], true, false, Option, Some, None, Ok, Err, Vec, Global, refl, sym, ap, ◌∙◌, subst}
 use Rattle.tl_base.specs.declared.host.Out.TheVariants as outs
 use Rattle.box_client.specs.States.{ClientState}
-use Rattle.wire_profile.specs.Places.{ProfileView}
+use Rattle.wire_profile.specs.Indexes.{ProfileView}
 use Rattle.outside.specs.Answer.{done, link_fault_line, memory_line, write_fault_line}
 use Rattle.outside.specs.declared.status.Status.{Status}
 use Rattle.outside.specs.declared.status.Status.TheVariants.{LinkFault, Memory, PeerFault, WriteFault}

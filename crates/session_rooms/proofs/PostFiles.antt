@@ -14,7 +14,7 @@ use Rattle.tl_base.specs.declared.host.Slot.{Slot}
 use Rattle.tl_base.specs.declared.host.Slot.TheVariants as slots
 use Rattle.tl_schema.specs.Schemas.{Declared}
 use Rattle.tl_schema.specs.Types.{call}
-use Rattle.wire_profile.specs.Places.{ProfileView}
+use Rattle.wire_profile.specs.Indexes.{ProfileView}
 use Rattle.outside.specs.Answer.{Answer, done, link_fault_line, printed, refused, write_fault_line}
 use Rattle.outside.specs.Jobs.{GivesOutput}
 use Rattle.outside.specs.declared.status.Status.{Status}

@@ -11,7 +11,7 @@ use Rattle.tl_base.specs.declared.host.Slot.{Slot}
 use Rattle.tl_base.specs.declared.host.Slot.TheVariants as slots
 use Rattle.tl_schema.specs.CheckedPrograms.{IsSchema}
 use Rattle.tl_schema.specs.Schemas.{Declared}
-use Rattle.wire_profile.specs.Places.{ProfileView}
+use Rattle.wire_profile.specs.Indexes.{ProfileView}
 use Rattle.wire_profile.specs.Profiles.{IsProfile}
 use Rattle.outside.specs.Answer.{Answer, done, link_fault_line, refused, write_fault_line}
 use Rattle.outside.specs.Kept.{AddsPrefix}

@@ -18,7 +18,7 @@ use fault_lines::{packet_stop, profile_of};
 use outside::{
     Host, LoadError, Packet, Status, Stop, finish, print, print_made, read_file, take_packet, tell,
 };
-use schema_files::{JSON_BYTES, SCHEMA_BYTES, fit_unmade, formed_value, schema_of};
+use schema_files::{JSON_BYTES, SCHEMA_BYTES, fit_error, formed_value, schema_of};
 use session_commands::{Sending, call_of, reply_line};
 use std::alloc::{AllocError, Global};
 use tl_base::{Bytes, PacketFault, Slot};
@@ -140,7 +140,7 @@ fn json_value(alloc: Global, profile: &Profile, text: &[u8]) -> Result<Value, Lo
     let value = formed_value(alloc, schema, &TypeRef::Call, text)?;
     match fits(alloc, schema, &TypeRef::Call, &value) {
         Ok(()) => Ok(value),
-        Err(fault) => Err(fit_unmade(alloc, &fault)),
+        Err(fault) => Err(fit_error(alloc, &fault)),
     }
 }
 

@@ -7,7 +7,7 @@ ghost use Rattle.box_events.specs.declared.requests.Numbered.{Numbered};
 ghost use Rattle.outside.specs.Pieces.{Writes};
 ghost use Rattle.outside.specs.Begun.{Did};
 ghost use Rattle.update_sessions.specs.Packed.{Packed, SpellsCall};
-ghost use Rattle.wire_profile.specs.Places.{ProfileView};
+ghost use Rattle.wire_profile.specs.Indexes.{ProfileView};
 ghost use Rattle.session_rooms.specs.Sending.{Sends};
 
 use outside::{Host, write_out};

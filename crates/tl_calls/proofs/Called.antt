@@ -7,7 +7,7 @@ use Rattle.std.proofs.lemmas.Option.{none-some, same_Some, slice_get-map, slice_
 use Rattle.std.proofs.lemmas.Slice.Eq.{bytes_eq-Decides}
 use Rattle.tl_program.specs.Program.{KindText, nat, flag, call, of, FieldText, DeclText}
 use Rattle.tl_names.specs.Writing.{At}
-use Rattle.tl_names.specs.Places.{variable_of}
+use Rattle.tl_names.specs.Indexes.{variable_of}
 use Rattle.tl_schema.specs.SameName.{part}
 use Rattle.tl_schema.specs.UnknownVariable.{called_by, calls, uncalled}
 use Rattle.tl_schema.specs.CheckCauses.{NoneHas}

@@ -4,7 +4,7 @@ ghost use Rattle.tl_schema.specs.Seen.{shape};
 ghost use Rattle.tl_show.specs.inner.Kept.{AreFormsOf};
 ghost use Rattle.tl_codec.specs.Codings.{Decodes};
 
-use crate::refusals::input_unmade;
+use crate::refusals::input_error;
 use outside::LoadError;
 use schema_files::line_by;
 use std::alloc::Global;
@@ -29,6 +29,6 @@ pub fn line_of(
             Ok(line) => Ok(line),
             Err(_) => Err(LoadError::Memory),
         },
-        Err(fault) => Err(input_unmade(alloc, fault)),
+        Err(fault) => Err(input_error(alloc, fault)),
     }
 }

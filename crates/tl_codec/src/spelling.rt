@@ -5,7 +5,7 @@ ghost use Rattle.tl_show.specs.inner.Kept.{AreKeysOf};
 ghost use Rattle.tl_codec.specs.Codings.{Encodes};
 
 use outside::LoadError;
-use schema_files::{fit_unmade, form_by};
+use schema_files::{fit_error, form_by};
 use std::alloc::Global;
 use tl_encode::spelling_as;
 use tl_schema::{Schema, TypeRef};
@@ -26,6 +26,6 @@ pub fn bytes_of(
     let value = form_by(alloc, keys, schema, of, text)?;
     match spelling_as(alloc, schema, of, &value) {
         Ok(bytes) => Ok(bytes),
-        Err(fault) => Err(fit_unmade(alloc, &fault)),
+        Err(fault) => Err(fit_error(alloc, &fault)),
     }
 }

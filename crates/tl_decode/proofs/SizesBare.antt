@@ -15,11 +15,11 @@ use Rattle.tl_names.specs.Writing.{is_type_name, is_built_in, is_variable}
 use Rattle.tl_names.specs.Constructors.{FirstOf, IsOnlyConstructor}
 use Rattle.tl_names.specs.BareFields.{TakesNone}
 use Rattle.tl_names.specs.BareReferences.{IsBareOf, by_name, by_type}
-use Rattle.tl_names.specs.Places.{first_of, place_of}
+use Rattle.tl_names.specs.Indexes.{first_of, constructor_index}
 use Rattle.tl_names.proofs.HeadNames.{type_name}
 use Rattle.tl_names.proofs.NameMeanings.{Means, means}
 use Rattle.tl_names.proofs.NameMeanings as name
-use Rattle.tl_names.proofs.FirstPlaces.{place_found, first_found}
+use Rattle.tl_names.proofs.FirstIndexes.{index_found, first_found}
 use Rattle.tl_schema.specs.Types.{Shape, Shapes}
 use Rattle.tl_schema.specs.Schemas.{Declared}
 use Rattle.tl_schema.specs.UnknownType.{BeginsUnknown, no_constructor}
@@ -120,7 +120,7 @@ module _ (schema : Declared) (d : DeclText) where
     type_full : is_type_name n ≡ true → IsEmpty schema (declared_shape schema.program n args) → ⊥
     type_full upper e = rw upper at e
 
-    constructor_empty : is_type_name n ≡ false → IsEmpty schema (declared_shape schema.program n args) → TakesNone schema.program (place_of schema.program n)
+    constructor_empty : is_type_name n ≡ false → IsEmpty schema (declared_shape schema.program n args) → TakesNone schema.program (constructor_index schema.program n)
     constructor_empty lower e = rw lower at e
 
     named_by : (w : What) → Means schema.program d n w → (BeginsUnknown schema.program d (named n ts) → ⊥) → IsEmpty schema (named_shape schema.program d n args) → IsEmptyBare (named n ts)
@@ -132,7 +132,7 @@ module _ (schema : Declared) (d : DeclText) where
     named_by _ (name.boxed_vector v is) known e = absurd (vector_full (sym (ap (is_variable d) is) ∙ v) (subst (λ (m : List ℕ). IsEmpty schema (named_shape schema.program d m args)) is e))
     named_by _ (name.type number first v own upper at is) known e = absurd (type_full upper (declared_empty v own e))
     named_by _ (name.constructor j v own lower first) known e =
-        (j, by_name n ts refl v own lower first, subst (TakesNone schema.program) (sym (place_found schema.program n j first)) (constructor_empty lower (declared_empty v own e)))
+        (j, by_name n ts refl v own lower first, subst (TakesNone schema.program) (sym (index_found schema.program n j first)) (constructor_empty lower (declared_empty v own e)))
     named_by _ (name.no_type v own upper at is) known e = absurd (type_full upper (declared_empty v own e))
     named_by _ (name.no_constructor v own lower none) known e =
         absurd (known (record { no_variable = v; no_built_in = own; unknown = no_constructor lower (λ j c there. none j (c, there)) }))

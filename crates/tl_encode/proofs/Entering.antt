@@ -58,9 +58,9 @@ some_weight v = omega arith
 -- ---- a value with parts
 
 -- there is a level for it
-has_place : (n : ℕ) (v : ValueView) → is_deep_value v ≡ true → has_level n v ≡ true → 0 < n
-has_place zero v deep level = absurd (true≢false (sym level ∙ ap not deep))
-has_place (suc n) v deep level = omega arith
+some_level : (n : ℕ) (v : ValueView) → is_deep_value v ≡ true → has_level n v ≡ true → 0 < n
+some_level zero v deep level = absurd (true≢false (sym level ∙ ap not deep))
+some_level (suc n) v deep level = omega arith
 
 module _ (p : PlanView) (x : Part) (fs : List WalkFrame) (none : node_misfit p.schema.decls (levels_in fs) x.bit (part_type p x) (view x.value.now) ≡ None) where
   abbrev ds : List Declaration
@@ -75,8 +75,8 @@ module _ (p : PlanView) (x : Part) (fs : List WalkFrame) (none : node_misfit p.s
   own_misfit : misfit ds (levels_in fs) x.bit T v ≡ parts_misfit ds (levels_in fs - 1) T v
   own_misfit = passed ds (levels_in fs) x.bit T v none
 
-  pub place_left : (f : WalkFrame) → IsFrameOf p T v f → length fs < MAX_LEVELS
-  place_left f is = let some = has_place (levels_in fs) v is.deep (passes ds (levels_in fs) x.bit T v none).level in omega (arith, some)
+  pub level_left : (f : WalkFrame) → IsFrameOf p T v f → length fs < MAX_LEVELS
+  level_left f is = let some = some_level (levels_in fs) v is.deep (passes ds (levels_in fs) x.bit T v none).level in omega (arith, some)
 
   pub enter_none : FramesParts p T v None → AreOfPlan p fs → Enters p x fs fs
   enter_none flat all =

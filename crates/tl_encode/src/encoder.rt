@@ -12,7 +12,7 @@ ghost use Rattle.tl_types.specs.declared.value.TheConstants as limits;
 ghost use Rattle.tl_encode.specs.Encoding.{AnswersMisfit, KeepsSink, TellsFit, WritesSpelling};
 ghost use Rattle.tl_encode.specs.Lengths.{FitsInstance, IsSpelledLength};
 ghost use Rattle.tl_encode.specs.inner.Bytes.{spelling};
-ghost use Rattle.tl_encode.specs.inner.Frames.{EachIsCounted, HasPlaces, frames_of};
+ghost use Rattle.tl_encode.specs.inner.Frames.{EachIsCounted, HasLevels, frames_of};
 ghost use Rattle.tl_encode.specs.inner.Walks.{AreOfPlan, Enters, GivesBytes, StepsOver, levels_in, part_type, type_at};
 
 use crate::fault::EncodeFault;
@@ -122,11 +122,11 @@ fn bytes_of<'a>(
 // Steps over a part that has no misfit, its own parts aside, and gives the next.
 #[inline(always)]
 fn step_over<'a>(plan: &'a Plan, part: Part<'a>, stack: &mut Stack<'a>) -> Option<Part<'a>>
-    requires places { HasPlaces stack.old }
+    requires levels { HasLevels stack.old }
     requires counted { EachIsCounted (frames_of stack.old) }
     requires instance { part.of < length plan.now.instances }
     requires fits { node_misfit plan.now.schema.decls (levels_in (frames_of stack.old)) part.bit (part_type plan.now part) (view part.value.now) ≡ None }
-    ensures places { HasPlaces stack.new }
+    ensures levels { HasLevels stack.new }
     ensures counted { EachIsCounted (frames_of stack.new) }
     ensures steps { AreOfPlan plan.now (frames_of stack.old) → StepsOver plan.now part.entry (frames_of stack.old) (frames_of stack.new) result }
 {
@@ -136,11 +136,11 @@ fn step_over<'a>(plan: &'a Plan, part: Part<'a>, stack: &mut Stack<'a>) -> Optio
 
 // Stands in the part, if it has parts.
 fn enter<'a>(plan: &'a Plan, part: Part<'a>, stack: &mut Stack<'a>)
-    requires places { HasPlaces stack.old }
+    requires levels { HasLevels stack.old }
     requires counted { EachIsCounted (frames_of stack.old) }
     requires instance { part.of < length plan.now.instances }
     requires fits { node_misfit plan.now.schema.decls (levels_in (frames_of stack.old)) part.bit (part_type plan.now part) (view part.value.now) ≡ None }
-    ensures places { HasPlaces stack.new }
+    ensures levels { HasLevels stack.new }
     ensures counted { EachIsCounted (frames_of stack.new) }
     ensures enters { AreOfPlan plan.now (frames_of stack.old) → Enters plan.now part.entry (frames_of stack.old) (frames_of stack.new) }
 {

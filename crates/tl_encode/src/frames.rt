@@ -4,7 +4,7 @@ ghost use Rattle.std.specs.Option.{option_map};
 ghost use Rattle.std.specs.Prelude.{nat_lt};
 ghost use Rattle.tl_plan.specs.Plans.{PlanView};
 ghost use Rattle.tl_types.specs.declared.value.TheConstants.{MAX_LEVELS};
-ghost use Rattle.tl_encode.specs.inner.Frames.{AreCounted, EachIsCounted, HasPlaces, IsCounted, first_of, frames_of, path_of, rested, standing_at, stepped};
+ghost use Rattle.tl_encode.specs.inner.Frames.{AreCounted, EachIsCounted, HasLevels, IsCounted, first_of, frames_of, path_of, rested, standing_at, stepped};
 ghost use Rattle.tl_encode.specs.inner.Walks.{AreOfPlan, GoesOn, HasInstances, IsNextPart};
 
 use std::alloc::{AllocError, Global};
@@ -79,7 +79,7 @@ impl<'a> Stack<'a> {
     /// No frames.
     pub fn new() -> Stack<'a>
         ensures frames { frames_of result ≡ [] }
-        ensures places { HasPlaces result }
+        ensures levels { HasLevels result }
     {
         let frame = WalkFrame {
             values: &[],
@@ -94,7 +94,7 @@ impl<'a> Stack<'a> {
 
     /// How many levels are left for what stands in these frames.
     pub fn levels(&self) -> u32
-        requires places { HasPlaces self.now }
+        requires levels { HasLevels self.now }
         ensures { result ≡ MAX_LEVELS - length (frames_of self.now) }
     {
         MAX_LEVELS - self.height as u32
@@ -102,7 +102,7 @@ impl<'a> Stack<'a> {
 
     /// The indices of the parts that were walked last, the outermost first.
     pub fn path(&self, alloc: Global) -> Result<Vec<u32>, AllocError>
-        requires places { HasPlaces self.now }
+        requires levels { HasLevels self.now }
         ensures { IfOk result (λ path. path.items ≡ path_of (frames_of self.now)) }
     {
         let mut path = Vec::new(alloc);
@@ -114,10 +114,10 @@ impl<'a> Stack<'a> {
 
     /// One frame more.
     pub fn push(&mut self, frame: WalkFrame<'a>)
-        requires places { HasPlaces self.old }
+        requires levels { HasLevels self.old }
         requires few { length (frames_of self.old) < MAX_LEVELS }
         ensures frames { frames_of self.new ≡ frame.entry ∷ frames_of self.old }
-        ensures places { HasPlaces self.new }
+        ensures levels { HasLevels self.new }
     {
         let height = self.height;
         let frames = &mut self.frames[..];
@@ -127,12 +127,12 @@ impl<'a> Stack<'a> {
 
     // The index of the next part of the innermost frame with a part left, which counts as walked from now on; frames that have none are taken off.
     fn next_at(&mut self) -> Option<u32>
-        requires places { HasPlaces self.old }
+        requires levels { HasLevels self.old }
         requires counted { EachIsCounted (frames_of self.old) }
         ensures at { result ≡ option_map (λ f. f.at) (first_of (rested (frames_of self.old))) }
         ensures some { IfSome result (λ _. 0 < self.new.height) }
         ensures frames { frames_of self.new ≡ stepped (rested (frames_of self.old)) }
-        ensures places { HasPlaces self.new }
+        ensures levels { HasLevels self.new }
     {
         while self.height > 0 {
             let top = self.height - 1;
@@ -149,7 +149,7 @@ impl<'a> Stack<'a> {
 
     // The innermost frame.
     fn innermost(&self) -> &WalkFrame<'a>
-        requires places { HasPlaces self.now }
+        requires levels { HasLevels self.now }
         requires some { 0 < self.now.height }
         ensures { first_of (frames_of self.now) ≡ Some result.now }
     {
@@ -159,10 +159,10 @@ impl<'a> Stack<'a> {
 
     /// The next part of the frames, the innermost first.
     pub fn next_part(&mut self) -> Option<Part<'a>>
-        requires places { HasPlaces self.old }
+        requires levels { HasLevels self.old }
         requires counted { EachIsCounted (frames_of self.old) }
         ensures goes_on { (p : PlanView) → AreOfPlan p (frames_of self.old) → GoesOn p (frames_of self.old) (frames_of self.new) result }
-        ensures places { HasPlaces self.new }
+        ensures levels { HasLevels self.new }
         ensures counted { EachIsCounted (frames_of self.new) }
     {
         let at = self.next_at()?;

@@ -9,13 +9,13 @@ use Rattle.tl_graph.specs.Firsts.{First}
 use Rattle.tl_graph.specs.Needs.{IsMarked}
 use Rattle.tl_graph.specs.Paths.{Edge, IsIn}
 use Rattle.tl_graph.proofs.PathsDecided.{path_decided}
-use Rattle.tl_names.proofs.Places.{get_kept, get_last, get_cases}
+use Rattle.tl_names.proofs.Indexes.{get_kept, get_last, get_cases}
 use Rattle.tl_schema.specs.CheckedPrograms.{IsSchema}
 use Rattle.tl_schema.specs.Formed.{IsFormed}
 use Rattle.tl_schema.specs.Types.{Shape}
 use Rattle.tl_schema.specs.Schemas.{Slot, Declaration, Declared}
 use Rattle.tl_schema.proofs.Firsts as firsts
-use Rattle.tl_schema.proofs.PlacesDecided.{option_decided, some_decided}
+use Rattle.tl_schema.proofs.IndexesDecided.{option_decided, some_decided}
 use Rattle.tl_plan.specs.Entries.{constructors_of, functions_of, indices_from}
 use Rattle.tl_plan.specs.inner.Walks.{AreHeads}
 use Rattle.tl_layers.specs.Reached.{Reached}

@@ -15,10 +15,10 @@ use Rattle.tl_names.specs.BareReferences.{IsBareOf, by_name, by_type}
 use Rattle.tl_names.specs.Constructors.{IsOnlyConstructor}
 use Rattle.tl_names.specs.NameLists.{with_name}
 use Rattle.tl_names.specs.Parts.{FieldAt, HeldBy, IsPart, Writes}
-use Rattle.tl_names.specs.Places.{types_of, with_type_of, head_of, place_of, first_of, variable_of}
+use Rattle.tl_names.specs.Indexes.{types_of, with_type_of, head_of, constructor_index, first_of, variable_of}
 use Rattle.tl_names.specs.Writing.{At, is_type_name, is_built_in, is_variable, is_constructor, result_head, own_type, IsConstructorNamed, IsConstructorOf}
-use Rattle.tl_names.proofs.Places.{get_cases}
-use Rattle.tl_names.proofs.FirstPlaces.{place_found, first_found}
+use Rattle.tl_names.proofs.Indexes.{get_cases}
+use Rattle.tl_names.proofs.FirstIndexes.{index_found, first_found}
 use Rattle.tl_names.proofs.HeadNames.{type_name}
 use Rattle.tl_schema.specs.CheckCauses.{NoneHas}
 use Rattle.tl_schema.specs.declared.fault.CheckCause.TheVariants as cause
@@ -129,16 +129,16 @@ module _ (ds : List DeclText) (d : DeclText) where
     same_index i j us vs e = ap index_in e
 
     module _ (known : BeginsUnknown ds d (named name ts) → ⊥) where
-      name_by : is_variable d name ≡ false → is_built_in name ≡ false → is_type_name name ≡ false → (o : Option ℕ) → First (λ i. (c : DeclText) × IsConstructorNamed ds name i c) o → Tells (named name ts) (type.bare (place_of ds name) args)
+      name_by : is_variable d name ≡ false → is_built_in name ≡ false → is_type_name name ≡ false → (o : Option ℕ) → First (λ i. (c : DeclText) × IsConstructorNamed ds name i c) o → Tells (named name ts) (type.bare (constructor_index ds name) args)
       name_by free own lower None none j b =
           absurd (known (record { no_variable = free; no_built_in = own; unknown = no_constructor lower (λ i c there. none i (c, there)) }))
       name_by free own lower (Some k) first j b =
-          let is : k ≡ j = place_found ds name k first ∙ same_index (place_of ds name) j args b.0 b.1 in
+          let is : k ≡ j = index_found ds name k first ∙ same_index (constructor_index ds name) j args b.0 b.1 in
           by_name name ts refl free own lower (subst (λ (x : ℕ). First (λ i. (c : DeclText) × IsConstructorNamed ds name i c) (Some x)) is first)
 
       declared_tells : is_variable d name ≡ false → is_built_in name ≡ false → Tells (named name ts) (declared_shape ds name args)
       declared_tells free own =
-          if_by (Tells (named name ts)) (is_type_name name) (type.boxed (head_of ds name) args) (type.bare (place_of ds name) args) (λ _ j b. absurd cc)
+          if_by (Tells (named name ts)) (is_type_name name) (type.boxed (head_of ds name) args) (type.bare (constructor_index ds name) args) (λ _ j b. absurd cc)
           (λ lower.
           let first = firsts.first_of (λ i. (c : DeclText) × IsConstructorNamed ds name i c) (length ds) (named_at_decided ds name) (λ i h. slice_get_within ds i h.0 h.1.there) in
           name_by free own lower first.0 first.1)
@@ -204,12 +204,12 @@ module _ (ds : List DeclText) (d : DeclText) where
       let upper = (or_false (is_some (built_in name)) (bytes_eq name (codes "Vector")) own).1 in
       let us = meanings ds d ts in
       let known = known_shape ds name us (base_shape name) in
-      let shape_is : named_shape ds d name us ≡ type.bare (place_of ds name) us =
+      let shape_is : named_shape ds d name us ≡ type.bare (constructor_index ds name) us =
       ap (λ (b : Bool). if b then type.var (variable_of d name) else if bytes_eq name (codes "vector") then type.vector false (item_of us) else if bytes_eq name (codes "Vector") then type.vector true (item_of us) else known) free
       ∙ ap (λ (b : Bool). if b then type.vector false (item_of us) else if bytes_eq name (codes "Vector") then type.vector true (item_of us) else known) (no_vector name own)
       ∙ ap (λ (b : Bool). if b then type.vector true (item_of us) else known) upper ∙ ap (known_shape ds name us) (no_base name own)
-      ∙ ap (λ (b : Bool). if b then type.boxed (head_of ds name) us else type.bare (place_of ds name) us) lower in
-      (meanings ds d ts, ap (meaning ds d) is ∙ shape_is ∙ ap (λ (k : ℕ). type.bare k (meanings ds d ts)) (sym (place_found ds name j first)))
+      ∙ ap (λ (b : Bool). if b then type.boxed (head_of ds name) us else type.bare (constructor_index ds name) us) lower in
+      (meanings ds d ts, ap (meaning ds d) is ∙ shape_is ∙ ap (λ (k : ℕ). type.bare k (meanings ds d ts)) (sym (index_found ds name j first)))
   bare_meant t j (by_type name ts c is free own upper one) =
       let other = (or_false (is_some (built_in name)) (bytes_eq name (codes "Vector")) own).1 in
       let shape_is : bare_shape ds name (meanings ds d ts) ≡ type.bare (first_of ds name) (meanings ds d ts) =

@@ -1,7 +1,7 @@
 -- The constructors of a type have one number of variables.
 use Rattle.std.proofs.Common.{◌≡◌, ℕ, ◌<◌, Bool, true, false, List, length, Option, None, refl, ap, sym, ◌∙◌, subst, if◌then◌else◌, arith}
 use Rattle.tl_names.specs.Writing.{is_constructor, result_head, own_type}
-use Rattle.tl_names.specs.Places.{types_of, head_of}
+use Rattle.tl_names.specs.Indexes.{types_of, head_of}
 use Rattle.tl_schema.specs.CheckedPrograms.{IsSchema}
 use Rattle.tl_schema.specs.Formed.{IsMember, AppliesType}
 use Rattle.tl_schema.specs.Meanings.{head_in}

@@ -7,7 +7,7 @@ use Rattle.tl_schema.specs.Schemas.{Slot, Declared}
 use Rattle.tl_plan.specs.Types.{is_same}
 use Rattle.tl_plan.proofs.SameTypes.{same_is, same_self}
 use Rattle.tl_layers.specs.Counterparts.{image}
-use Rattle.tl_layers.specs.Breaks.{field_place, named_condition, LacksField, IsBefore, IsChanged, NamesBit, IsSpare, IsAdded}
+use Rattle.tl_layers.specs.Breaks.{field_index, named_condition, LacksField, IsBefore, IsChanged, NamesBit, IsSpare, IsAdded}
 
 -- ---- tests in general
 
@@ -46,10 +46,10 @@ is_none_is (Some x) = (λ h. absurd (true≢false (sym h)), λ e. absurd (none-s
 -- ---- old fields
 
 module _ (fs gs : List Slot) (k : ℕ) (f : Slot) (at : slice_get fs k ≡ Some f) where
-  pub lacks_is : (b : Bool) → b ≡ is_none (field_place gs f.name) → IsTrue b ↔ LacksField fs gs k
+  pub lacks_is : (b : Bool) → b ≡ is_none (field_index gs f.name) → IsTrue b ↔ LacksField fs gs k
   lacks_is b is = (
-    λ h. (f, at, (is_none_is (field_place gs f.name)).0 (sym is ∙ h)),
-    λ l. is ∙ (is_none_is (field_place gs f.name)).1 (ap (λ (x : Slot). field_place gs x.name) (same_Some f l.0 (sym at ∙ l.1)) ∙ l.2),
+    λ h. (f, at, (is_none_is (field_index gs f.name)).0 (sym is ∙ h)),
+    λ l. is ∙ (is_none_is (field_index gs f.name)).1 (ap (λ (x : Slot). field_index gs x.name) (same_Some f l.0 (sym at ∙ l.1)) ∙ l.2),
   )
 
   -- one that stands before the field that it stood after
@@ -59,31 +59,31 @@ module _ (fs gs : List Slot) (k : ℕ) (f : Slot) (at : slice_get fs k ≡ Some 
         let same : h.0 ≡ p = (let is = h.5 in omega (arith, is, next)) in
         (same_Some e h.1 (sym before ∙ ap (slice_get fs) (sym same) ∙ h.6), same_Some f h.2 (sym at ∙ h.7))
 
-    pub before_is : (m n : ℕ) → field_place gs e.name ≡ Some m → field_place gs f.name ≡ Some n → (b : Bool) → b ≡ nat_lt n m → IsTrue b ↔ IsBefore fs gs k
+    pub before_is : (m n : ℕ) → field_index gs e.name ≡ Some m → field_index gs f.name ≡ Some n → (b : Bool) → b ≡ nat_lt n m → IsTrue b ↔ IsBefore fs gs k
     before_is m n at_m at_n b is = (
       λ h. (p, e, f, m, n, next, before, at, at_m, at_n, ltb-true n m (sym is ∙ h)),
       λ h.
           let o = one_before h in
-          let same_m : m ≡ h.3 = same_Some m h.3 (sym at_m ∙ ap (λ (x : Slot). field_place gs x.name) o.0 ∙ h.8) in
-          let same_n : n ≡ h.4 = same_Some n h.4 (sym at_n ∙ ap (λ (x : Slot). field_place gs x.name) o.1 ∙ h.9) in
+          let same_m : m ≡ h.3 = same_Some m h.3 (sym at_m ∙ ap (λ (x : Slot). field_index gs x.name) o.0 ∙ h.8) in
+          let same_n : n ≡ h.4 = same_Some n h.4 (sym at_n ∙ ap (λ (x : Slot). field_index gs x.name) o.1 ∙ h.9) in
           let less = h.10 in is ∙ lt-ltb n m (omega (arith, same_m, same_n, less)),
     )
 
-    pub before_gone : field_place gs e.name ≡ None → IsBefore fs gs k → ⊥
-    before_gone none h = none-some h.3 (sym none ∙ ap (λ (x : Slot). field_place gs x.name) (one_before h).0 ∙ h.8)
+    pub before_gone : field_index gs e.name ≡ None → IsBefore fs gs k → ⊥
+    before_gone none h = none-some h.3 (sym none ∙ ap (λ (x : Slot). field_index gs x.name) (one_before h).0 ∙ h.8)
 
-    pub here_gone : field_place gs f.name ≡ None → IsBefore fs gs k → ⊥
-    here_gone none h = none-some h.4 (sym none ∙ ap (λ (x : Slot). field_place gs x.name) (one_before h).1 ∙ h.9)
+    pub here_gone : field_index gs f.name ≡ None → IsBefore fs gs k → ⊥
+    here_gone none h = none-some h.4 (sym none ∙ ap (λ (x : Slot). field_index gs x.name) (one_before h).1 ∙ h.9)
 
   pub first_before : k ≡ 0 → IsBefore fs gs k → ⊥
   first_before first h = let is = h.5 in omega (arith, first, is)
 
   -- one that has changed
   module _ (old new : Declared) where
-    pub changed_gone : field_place gs f.name ≡ None → IsChanged old new fs gs k → ⊥
-    changed_gone none h = none-some h.1 (sym none ∙ ap (λ (x : Slot). field_place gs x.name) (same_Some f h.0 (sym at ∙ h.3)) ∙ h.4.0)
+    pub changed_gone : field_index gs f.name ≡ None → IsChanged old new fs gs k → ⊥
+    changed_gone none h = none-some h.1 (sym none ∙ ap (λ (x : Slot). field_index gs x.name) (same_Some f h.0 (sym at ∙ h.3)) ∙ h.4.0)
 
-    module _ (m : ℕ) (g : Slot) (place : field_place gs f.name ≡ Some m) (there : slice_get gs m ≡ Some g) (a b : Bool) (types : a ≡ is_same g.of (image old new f.of)) (conds : IsTrue b ↔ (named_condition gs g.cond ≡ named_condition fs f.cond)) where
+    module _ (m : ℕ) (g : Slot) (index : field_index gs f.name ≡ Some m) (there : slice_get gs m ≡ Some g) (a b : Bool) (types : a ≡ is_same g.of (image old new f.of)) (conds : IsTrue b ↔ (named_condition gs g.cond ≡ named_condition fs f.cond)) where
       to : (not a ≡ true) ⊎ (not b ≡ true) → (g.of ≢ image old new f.of) ⊎ (named_condition gs g.cond ≢ named_condition fs f.cond)
       to (inl h) = inl (λ e. both_ways a (types ∙ ap (λ (T : Shape). is_same g.of T) (sym e) ∙ same_self g.of) h)
         where
@@ -102,10 +102,10 @@ module _ (fs gs : List Slot) (k : ℕ) (f : Slot) (at : slice_get fs k ≡ Some 
 
       pub changed_is : IsTrue (not a || not b) ↔ IsChanged old new fs gs k
       changed_is = (
-        λ h. (f, m, g, at, (place, there), to (either_of (not a) (not b) h)),
+        λ h. (f, m, g, at, (index, there), to (either_of (not a) (not b) h)),
         λ h.
             let same_f : f ≡ h.0 = same_Some f h.0 (sym at ∙ h.3) in
-            let same_m : m ≡ h.1 = same_Some m h.1 (sym place ∙ ap (λ (x : Slot). field_place gs x.name) same_f ∙ h.4.0) in
+            let same_m : m ≡ h.1 = same_Some m h.1 (sym index ∙ ap (λ (x : Slot). field_index gs x.name) same_f ∙ h.4.0) in
             let same_g : g ≡ h.2 = same_Some g h.2 (sym there ∙ ap (slice_get gs) same_m ∙ h.4.1) in
             either (not a) (not b) (from (subst (λ (x : Slot). (g.of ≢ image old new x.of) ⊎ (named_condition gs g.cond ≢ named_condition fs x.cond)) (sym same_f)
             (subst (λ (y : Slot). (y.of ≢ image old new h.0.of) ⊎ (named_condition gs y.cond ≢ named_condition fs h.0.cond)) (sym same_g) h.5))),
@@ -113,11 +113,11 @@ module _ (fs gs : List Slot) (k : ℕ) (f : Slot) (at : slice_get fs k ≡ Some 
 
       -- by the type alone, and where this is the image by the condition
       pub changed_type : a ≡ false → IsTrue (not a) ↔ IsChanged old new fs gs k
-      changed_type e = (λ h. (f, m, g, at, (place, there), to (inl h)), λ c. ap not e)
+      changed_type e = (λ h. (f, m, g, at, (index, there), to (inl h)), λ c. ap not e)
 
       pub changed_condition : a ≡ true → IsTrue (not b) ↔ IsChanged old new fs gs k
       changed_condition e = (
-        λ h. (f, m, g, at, (place, there), to (inr h)),
+        λ h. (f, m, g, at, (index, there), to (inr h)),
         λ c. elim (either_of (not a) (not b) (changed_is.1 c)) [ inl h ↦ absurd (true≢false (sym h ∙ ap not e)) | inr h ↦ h ],
       )
 
@@ -125,12 +125,12 @@ module _ (fs gs : List Slot) (k : ℕ) (f : Slot) (at : slice_get fs k ≡ Some 
 
 module _ (fs gs : List Slot) where
   module _ (m : ℕ) (g : Slot) (at : slice_get gs m ≡ Some g) where
-    pub added_is : (a b : Bool) → a ≡ is_none (field_place fs g.name) → IsTrue b ↔ IsSpare fs gs g.cond → IsTrue (a && not b) ↔ IsAdded fs gs m
+    pub added_is : (a b : Bool) → a ≡ is_none (field_index fs g.name) → IsTrue b ↔ IsSpare fs gs g.cond → IsTrue (a && not b) ↔ IsAdded fs gs m
     added_is a b is spare = (
-      λ h. (let two = both_of a (not b) h in (g, at, (is_none_is (field_place fs g.name)).0 (sym is ∙ two.0), (is_not b spare).0 two.1)),
+      λ h. (let two = both_of a (not b) h in (g, at, (is_none_is (field_index fs g.name)).0 (sym is ∙ two.0), (is_not b spare).0 two.1)),
       λ h.
           let same : g ≡ h.0 = same_Some g h.0 (sym at ∙ h.1) in
-          both a (not b) (is ∙ (is_none_is (field_place fs g.name)).1 (ap (λ (x : Slot). field_place fs x.name) same ∙ h.2))
+          both a (not b) (is ∙ (is_none_is (field_index fs g.name)).1 (ap (λ (x : Slot). field_index fs x.name) same ∙ h.2))
           ((is_not b spare).1 (λ s. h.3 (subst (λ (x : Slot). IsSpare fs gs x.cond) same s))),
     )
 
@@ -150,10 +150,10 @@ module _ (fs gs : List Slot) where
       same_h : (s : IsSpare fs gs (Some (m, bit))) → h ≡ s.h
       same_h s = same_Some h s.h (sym there ∙ ap (slice_get gs) (sym (same_at s).0) ∙ s.there)
 
-      pub spare_gone : field_place fs h.name ≡ None → IsSpare fs gs (Some (m, bit)) → ⊥
-      spare_gone none s = none-some s.k (sym none ∙ ap (λ (x : Slot). field_place fs x.name) (same_h s) ∙ s.here.0)
+      pub spare_gone : field_index fs h.name ≡ None → IsSpare fs gs (Some (m, bit)) → ⊥
+      spare_gone none s = none-some s.k (sym none ∙ ap (λ (x : Slot). field_index fs x.name) (same_h s) ∙ s.here.0)
 
-      module _ (k : ℕ) (f : Slot) (place : field_place fs h.name ≡ Some k) (here : slice_get fs k ≡ Some f) (a b : Bool) (number : a ≡ is_same f.of nat) (named : IsTrue b ↔ NamesBit fs k bit) where
+      module _ (k : ℕ) (f : Slot) (index : field_index fs h.name ≡ Some k) (here : slice_get fs k ≡ Some f) (a b : Bool) (number : a ≡ is_same f.of nat) (named : IsTrue b ↔ NamesBit fs k bit) where
         pub spare_is : IsTrue (a && not b) ↔ IsSpare fs gs (Some (m, bit))
         spare_is = (
           λ t.
@@ -166,12 +166,12 @@ module _ (fs gs : List Slot) where
                 f = f;
                 is = refl;
                 there = there;
-                here = (place, here);
+                here = (index, here);
                 number = same_is f.of nat (sym number ∙ two.0);
                 spare = (is_not b named).0 two.1;
               },
           λ s.
-              let same_k : k ≡ s.k = same_Some k s.k (sym place ∙ ap (λ (x : Slot). field_place fs x.name) (same_h s) ∙ s.here.0) in
+              let same_k : k ≡ s.k = same_Some k s.k (sym index ∙ ap (λ (x : Slot). field_index fs x.name) (same_h s) ∙ s.here.0) in
               let same_f : f ≡ s.f = same_Some f s.f (sym here ∙ ap (slice_get fs) same_k ∙ s.here.1) in
               both a (not b) (number ∙ ap (λ (x : Slot). is_same x.of nat) same_f ∙ ap (λ (T : Shape). is_same T nat) s.number ∙ refl)
               ((is_not b named).1 (λ n. s.spare (subst (λ (j : ℕ). NamesBit fs j s.bit) same_k (subst (NamesBit fs k) (sym (same_at s).1) n)))),
@@ -180,9 +180,9 @@ module _ (fs gs : List Slot) where
         pub spare_then : a ≡ true → IsTrue (not b) ↔ IsSpare fs gs (Some (m, bit))
         spare_then e = subst (λ (x : Bool). IsTrue (x && not b) ↔ IsSpare fs gs (Some (m, bit))) e spare_is
 
-      pub spare_else : (k : ℕ) (f : Slot) → field_place fs h.name ≡ Some k → slice_get fs k ≡ Some f → is_same f.of nat ≡ false → IsSpare fs gs (Some (m, bit)) → ⊥
-      spare_else k f place here other s =
-          let same_k : k ≡ s.k = same_Some k s.k (sym place ∙ ap (λ (x : Slot). field_place fs x.name) (same_h s) ∙ s.here.0) in
+      pub spare_else : (k : ℕ) (f : Slot) → field_index fs h.name ≡ Some k → slice_get fs k ≡ Some f → is_same f.of nat ≡ false → IsSpare fs gs (Some (m, bit)) → ⊥
+      spare_else k f index here other s =
+          let same_k : k ≡ s.k = same_Some k s.k (sym index ∙ ap (λ (x : Slot). field_index fs x.name) (same_h s) ∙ s.here.0) in
           let same_f : f ≡ s.f = same_Some f s.f (sym here ∙ ap (slice_get fs) same_k ∙ s.here.1) in
           true≢false (sym (ap (λ (x : Slot). is_same x.of nat) same_f ∙ ap (λ (T : Shape). is_same T nat) s.number) ∙ other)
 

@@ -6,9 +6,9 @@ use Rattle.std.proofs.lemmas.Option.{same_Some}
 use Rattle.std.proofs.lemmas.List.Sums.{prefix_len-le-length}
 use Rattle.tl_graph.specs.Firsts.{First}
 use Rattle.tl_names.specs.Writing.{own_type}
-use Rattle.tl_names.specs.Places.{types_of}
+use Rattle.tl_names.specs.Indexes.{types_of}
 use Rattle.tl_names.proofs.Maps.{take_push}
-use Rattle.tl_names.proofs.Places.{IsPlace}
+use Rattle.tl_names.proofs.Indexes.{HoldsAt}
 use Rattle.tl_names.proofs.Positions.{first_position, position_push}
 use Rattle.tl_schema.specs.CheckedPrograms.{IsSchema}
 use Rattle.tl_schema.specs.Meanings.{head_in}
@@ -96,7 +96,7 @@ module _ (S : Declared) (good : IsSchema S) where
       let head : d.head ≡ head_in S.program (own_type t.0) = ap (λ (x : Declaration). x.head) t.2.1 in
       let low = low_by (own_type t.0) in omega (arith, head, low)
 
-  none_high : (h : ℕ) → type_total S < h → (o : Option ℕ) → First (IsPlace (λ (x : Declaration). x.head ≡ h) S.decls) o → o ≡ None
+  none_high : (h : ℕ) → type_total S < h → (o : Option ℕ) → First (HoldsAt (λ (x : Declaration). x.head ≡ h) S.decls) o → o ≡ None
   none_high h high None first = refl
   none_high h high (Some c) first = let p = first.0 in absurd (let low = head_low c p.x p.there in let is = p.has in omega (arith, low, is, high))
 

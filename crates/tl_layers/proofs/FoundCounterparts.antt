@@ -3,7 +3,7 @@ use Rattle.std.proofs.Common.{◌≡◌, ℕ, ◌≤◌, List, length, position,
 use Rattle.std.specs.Bool.{Decides}
 use Rattle.std.proofs.lemmas.Option.{slice_get_within}
 use Rattle.std.proofs.lemmas.Slice.Eq.{bytes_eq-Decides}
-use Rattle.tl_names.proofs.Places.{IsPlace, first_same}
+use Rattle.tl_names.proofs.Indexes.{HoldsAt, first_same}
 use Rattle.tl_names.proofs.Positions.{first_position}
 use Rattle.tl_names.proofs.Firsts.{one_first}
 use Rattle.tl_schema.specs.CheckedPrograms.{Finds, HasName}
@@ -39,15 +39,15 @@ decides d e = (
 )
 
 module _ (es : List Declaration) (d : Declaration) where
-  as_place : (i : ℕ) → HasName es d.name d.function i → IsPlace (IsNamesake d) es i
-  as_place i h = record { x = h.0; there = h.1; has = (h.2, h.3) }
+  as_index : (i : ℕ) → HasName es d.name d.function i → HoldsAt (IsNamesake d) es i
+  as_index i h = record { x = h.0; there = h.1; has = (h.2, h.3) }
 
-  from_place : (i : ℕ) → IsPlace (IsNamesake d) es i → HasName es d.name d.function i
-  from_place i p = (p.x, p.there, p.has.0, p.has.1)
+  from_index : (i : ℕ) → HoldsAt (IsNamesake d) es i → HasName es d.name d.function i
+  from_index i p = (p.x, p.there, p.has.0, p.has.1)
 
   pub found_is : (o : Option ℕ) → Finds es d.name d.function o → o ≡ position (is_namesake d) es
   found_is o found =
-      one_first (IsPlace (IsNamesake d) es) o (position (is_namesake d) es) (first_same (HasName es d.name d.function) (IsPlace (IsNamesake d) es) as_place from_place o found)
+      one_first (HoldsAt (IsNamesake d) es) o (position (is_namesake d) es) (first_same (HasName es d.name d.function) (HoldsAt (IsNamesake d) es) as_index from_index o found)
       (first_position (is_namesake d) (IsNamesake d) (decides d) es)
 
 pub counterpart_found : (old new : Declared) (i : ℕ) (d : Declaration) (o : Option ℕ) → slice_get old.decls i ≡ Some d → Finds new.decls d.name d.function o → if_own new o ≡ counterpart old new i

@@ -6,7 +6,7 @@ use Rattle.std.proofs.lemmas.List.{length_push, take_all}
 use Rattle.std.proofs.lemmas.List.Sums.{count_by_more_yes, count_by_more_no}
 use Rattle.std.proofs.lemmas.Option.{none-some, same_Some, slice_get_within, get_or_from_slice_get}
 use Rattle.tl_graph.specs.Needs.{IsMarked}
-use Rattle.tl_names.proofs.Places.{get_cases}
+use Rattle.tl_names.proofs.Indexes.{get_cases}
 use Rattle.tl_layers.specs.Breaks.{HasBreak, rank}
 use Rattle.tl_layers.specs.inner.Pairs.{PairView}
 use Rattle.tl_layers.specs.inner.FieldBreaks.{IsFirstBreak}

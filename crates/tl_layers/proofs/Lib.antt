@@ -24,7 +24,7 @@ pub mod Verdicts
 pub mod EachBreaks
 pub mod SameLists
 pub mod GraphSteps
-pub mod FieldPlaces
+pub mod FieldIndexes
 pub mod FirstOnes
 pub mod BuiltInNames
 pub mod EmptyConstructors

@@ -9,7 +9,7 @@ use Rattle.tl_schema.specs.Closing.{closed, list_of_shapes}
 use Rattle.tl_schema.specs.Schemas.{Slot, Declaration, Declared}
 use Rattle.tl_types.specs.Values.{ValueView, int, long, nat, opaque, text, truth, absent, list, node, call, ValueViews, no_values, value, values_of}
 use Rattle.tl_types.specs.Spelling.{Spells, SpellEach, SpellFields, boxed, bare}
-use Rattle.tl_layers.specs.Breaks.{field_place}
+use Rattle.tl_layers.specs.Breaks.{field_index}
 use Rattle.tl_types.specs.Seen.{view}
 use Rattle.tl_types.specs.declared.value.Value.{Value}
 use Rattle.std.specs.Prelude.{IfOk, Result, Ok, Err}
@@ -53,14 +53,14 @@ pick_next : (w : ValueView) (ws : List ValueView) (o : Option ℕ) → picked ws
 pick_next w ws None = refl
 pick_next w ws (Some k) = refl
 
-pub pick_named : (fs : List Slot) (ws : List ValueView) (name : List ℕ) → value_named fs ws name ≡ picked ws (field_place fs name)
+pub pick_named : (fs : List Slot) (ws : List ValueView) (name : List ℕ) → value_named fs ws name ≡ picked ws (field_index fs name)
 pick_named [] ws name = refl
-pick_named (f ∷ fs) [] name = pick_none (field_place (f ∷ fs) name)
+pick_named (f ∷ fs) [] name = pick_none (field_index (f ∷ fs) name)
 pick_named (f ∷ fs) (w ∷ ws) name = by (bytes_eq name f.name) refl (pick_named fs ws name)
   where
-    by : (b : Bool) → bytes_eq name f.name ≡ b → value_named fs ws name ≡ picked ws (field_place fs name) → (if b then w else value_named fs ws name) ≡ picked (w ∷ ws) (field_place (f ∷ fs) name)
+    by : (b : Bool) → bytes_eq name f.name ≡ b → value_named fs ws name ≡ picked ws (field_index fs name) → (if b then w else value_named fs ws name) ≡ picked (w ∷ ws) (field_index (f ∷ fs) name)
     by true e later = ap (picked (w ∷ ws)) (sym (position_here (λ (g : Slot). bytes_eq name g.name) f fs e))
-    by false e later = later ∙ pick_next w ws (field_place fs name) ∙ ap (picked (w ∷ ws)) (sym (position_next (λ (g : Slot). bytes_eq name g.name) f fs e))
+    by false e later = later ∙ pick_next w ws (field_index fs name) ∙ ap (picked (w ∷ ws)) (sym (position_next (λ (g : Slot). bytes_eq name g.name) f fs e))
 
 -- ---- values
 
@@ -91,7 +91,7 @@ module _ (l : LayersView) (made : Shape) (moved : List (Option Moved)) (count : 
       let k = kept_at i r in
       ap (λ (o : Option (Option Moved)). fields_by o ws) k.1 ∙ ap (map (picked ws)) (k.2).from ∙ all_picked (new_fields l.old l.new i)
     where
-      all_picked : (gs : List Slot) → map (picked ws) (map (λ (g : Slot). field_place (old_fields l.old i) g.name) gs) ≡ map (λ (g : Slot). value_named (old_fields l.old i) ws g.name) gs
+      all_picked : (gs : List Slot) → map (picked ws) (map (λ (g : Slot). field_index (old_fields l.old i) g.name) gs) ≡ map (λ (g : Slot). value_named (old_fields l.old i) ws g.name) gs
       all_picked [] = refl
       all_picked (g ∷ gs) = ap₂ (λ (v : ValueView) (vs : List ValueView). v ∷ vs) (sym (pick_named (old_fields l.old i) ws g.name)) (all_picked gs)
 

@@ -5,14 +5,14 @@ use Rattle.std.proofs.lemmas.Bool.{false_from_ne_true}
 use Rattle.std.proofs.lemmas.Option.{none-some, same_Some}
 use Rattle.std.proofs.lemmas.Slice.Eq.{bytes_eq-Decides}
 use Rattle.tl_graph.specs.Firsts.{First}
-use Rattle.tl_names.proofs.Places.{IsPlace}
+use Rattle.tl_names.proofs.Indexes.{HoldsAt}
 use Rattle.tl_names.proofs.Positions.{first_position}
 use Rattle.tl_schema.specs.Types.{Shape}
 use Rattle.tl_schema.specs.Schemas.{Slot, Declared}
 use Rattle.tl_types.specs.Values.{ValueView, int, long, nat, opaque, text, truth, absent, list, node, call, ValueViews, no_values, value, list_of, count}
 use Rattle.tl_types.specs.Conditions.{is_bit, bits_of}
 use Rattle.tl_types.specs.Spelling.{SpellFields}
-use Rattle.tl_layers.specs.Breaks.{field_place}
+use Rattle.tl_layers.specs.Breaks.{field_index}
 use Rattle.tl_layers.specs.Lifted.{lifted, lifted_each, value_named}
 
 -- ---- lists
@@ -53,14 +53,14 @@ module _ {X : Type 0} where
 abbrev pub AreApart : List Slot → Type 0
 AreApart fs = (j k : ℕ) (f g : Slot) → slice_get fs j ≡ Some f → slice_get fs k ≡ Some g → f.name ≡ g.name → j ≡ k
 
-pub place_tells : (fs : List Slot) (name : List ℕ) → First (IsPlace (λ f. name ≡ f.name) fs) (field_place fs name)
-place_tells fs name = first_position (λ f. bytes_eq name f.name) (λ f. name ≡ f.name) (λ f. bytes_eq-Decides name f.name) fs
+pub index_tells : (fs : List Slot) (name : List ℕ) → First (HoldsAt (λ f. name ≡ f.name) fs) (field_index fs name)
+index_tells fs name = first_position (λ f. bytes_eq name f.name) (λ f. name ≡ f.name) (λ f. bytes_eq-Decides name f.name) fs
 
-pub place_some : (fs : List Slot) (name : List ℕ) (k : ℕ) → field_place fs name ≡ Some k → (f : Slot) × (slice_get fs k ≡ Some f) × (f.name ≡ name)
-place_some fs name k at = let p = (subst (First (IsPlace (λ (f : Slot). name ≡ f.name) fs)) at (place_tells fs name)).0 in (p.x, p.there, sym p.has)
+pub index_some : (fs : List Slot) (name : List ℕ) (k : ℕ) → field_index fs name ≡ Some k → (f : Slot) × (slice_get fs k ≡ Some f) × (f.name ≡ name)
+index_some fs name k at = let p = (subst (First (HoldsAt (λ (f : Slot). name ≡ f.name) fs)) at (index_tells fs name)).0 in (p.x, p.there, sym p.has)
 
-pub place_none : (fs : List Slot) (name : List ℕ) → field_place fs name ≡ None → (k : ℕ) (f : Slot) → slice_get fs k ≡ Some f → f.name ≢ name
-place_none fs name none k f at same = subst (First (IsPlace (λ (g : Slot). name ≡ g.name) fs)) none (place_tells fs name) k (record { x = f; there = at; has = sym same })
+pub index_none : (fs : List Slot) (name : List ℕ) → field_index fs name ≡ None → (k : ℕ) (f : Slot) → slice_get fs k ≡ Some f → f.name ≢ name
+index_none fs name none k f at same = subst (First (HoldsAt (λ (g : Slot). name ≡ g.name) fs)) none (index_tells fs name) k (record { x = f; there = at; has = sym same })
 
 pub value_at : (fs : List Slot) (ws : List ValueView) (name : List ℕ) (k : ℕ) (f : Slot) (w : ValueView) → AreApart fs → slice_get fs k ≡ Some f → slice_get ws k ≡ Some w → f.name ≡ name → value_named fs ws name ≡ w
 value_at [] ws name k f w apart at there same = absurd (none-some f at)

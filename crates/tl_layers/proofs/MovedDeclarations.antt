@@ -6,8 +6,8 @@ use Rattle.std.proofs.lemmas.Option.{none-some, same_Some, slice_get_within, sli
 use Rattle.tl_graph.specs.Firsts.{First}
 use Rattle.tl_program.specs.Program.{DeclText, FieldText}
 use Rattle.tl_names.specs.Writing.{At}
-use Rattle.tl_names.specs.Places.{types_of}
-use Rattle.tl_names.proofs.Places.{IsPlace}
+use Rattle.tl_names.specs.Indexes.{types_of}
+use Rattle.tl_names.proofs.Indexes.{HoldsAt}
 use Rattle.tl_names.proofs.Positions.{first_position}
 use Rattle.tl_schema.specs.CheckedPrograms.{IsSchema}
 use Rattle.tl_schema.specs.Formed.{IsMember, IsFunction, IsOwn, IsFormed, IsFormedOver, AreArguments, field_variables}
@@ -23,11 +23,11 @@ use Rattle.tl_types.proofs.Members.{NumbersTell}
 use Rattle.tl_types.proofs.SchemaNumbers.{numbers_tell}
 use Rattle.tl_layers.specs.Reached.{Names, NamesInOne, Reached, named, further}
 use Rattle.tl_layers.specs.Counterparts.{is_namesake, is_own, if_own, counterpart, namesake, entry_image, head_image, head_at, head_in, first_constructor, counterpart_in, image}
-use Rattle.tl_layers.specs.Breaks.{ArePair, field_place, named_condition, LacksField, IsBefore, IsChanged, IsAdded, HasBreak}
+use Rattle.tl_layers.specs.Breaks.{ArePair, field_index, named_condition, LacksField, IsBefore, IsChanged, IsAdded, HasBreak}
 use Rattle.tl_layers.specs.declared.fault.Break.{Break}
 use Rattle.tl_layers.specs.declared.fault.Break.TheVariants.{Gone, NewNumber, NewVars, TypeSplit, FieldGone, FieldOrder, FieldChanged, FieldAdded}
 use Rattle.tl_layers.specs.LayerLaws.{AreLayers, ReadsOldBytes}
-use Rattle.tl_layers.proofs.LiftedValues.{AreApart, place_some, same_count}
+use Rattle.tl_layers.proofs.LiftedValues.{AreApart, index_some, same_count}
 use Rattle.tl_layers.proofs.NodeLists.{get_after}
 use Rattle.tl_layers.proofs.PlacedFields.{AreSettled, all_woven}
 use Rattle.tl_layers.proofs.OldBytes.{HasMoved, reads}
@@ -213,9 +213,9 @@ module _ (old new : Declared) (T : Shape) (layers : AreLayers old new T) where
     none_added : (m : ℕ) → IsAdded d.fields e.fields m → ⊥
     none_added = none_first (IsAdded d.fields e.fields) (length e.fields) (added_decided d.fields e.fields) (λ m h. slice_get_within e.fields m h.0 h.1) (λ m first. never (FieldAdded m) (d, e, pair, first))
 
-    place_of : (k : ℕ) (f : Slot) → slice_get d.fields k ≡ Some f → (o : Option ℕ) → field_place e.fields f.name ≡ o → (m : ℕ) × (field_place e.fields f.name ≡ Some m)
-    place_of k f at None none = absurd (none_lacks k (f, at, none))
-    place_of k f at (Some m) is = (m, is)
+    constructor_index : (k : ℕ) (f : Slot) → slice_get d.fields k ≡ Some f → (o : Option ℕ) → field_index e.fields f.name ≡ o → (m : ℕ) × (field_index e.fields f.name ≡ Some m)
+    constructor_index k f at None none = absurd (none_lacks k (f, at, none))
+    constructor_index k f at (Some m) is = (m, is)
 
     own_old : IsOwn old i
     own_old = reached_own old layers.old_is T i layers.formed reached
@@ -230,8 +230,8 @@ module _ (old new : Declared) (T : Shape) (layers : AreLayers old new T) where
       old_conditions = λ k f at. (fields_are_formed old layers.old_is i d k f own_old here at).cond;
       new_conditions = λ m g at. (fields_are_formed new layers.new_is j e m g own_new moved.there at).cond;
       keeps = λ k f at.
-          let m = place_of k f at (field_place e.fields f.name) refl in
-          let g = place_some e.fields f.name m.0 m.1 in (
+          let m = constructor_index k f at (field_index e.fields f.name) refl in
+          let g = index_some e.fields f.name m.0 m.1 in (
             m.0,
             g.0,
             (m.1, g.1),
@@ -250,7 +250,7 @@ module _ (old new : Declared) (T : Shape) (layers : AreLayers old new T) where
     fields_known k f at n is = further i n k d f reached here at is
 
   -- the first constructor of a type
-  first_of : (h i : ℕ) (d : Declaration) → IsMember old h i d → (o : Option ℕ) → First (IsPlace (λ x. x.head ≡ h) old.decls) o → first_constructor old h ≡ o → (c : ℕ) × (b : Declaration) × (first_constructor old h ≡ Some c) × IsMember old h c b
+  first_of : (h i : ℕ) (d : Declaration) → IsMember old h i d → (o : Option ℕ) → First (HoldsAt (λ x. x.head ≡ h) old.decls) o → first_constructor old h ≡ o → (c : ℕ) × (b : Declaration) × (first_constructor old h ≡ Some c) × IsMember old h c b
   first_of h i d m None none is = absurd (none i (record { x = d; there = m.there; has = m.head }))
   first_of h i d m (Some c) first is = let p = first.0 in (c, p.x, is, record { there = p.there; head = p.has; known = m.known })
 

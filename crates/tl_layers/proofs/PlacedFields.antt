@@ -9,11 +9,11 @@ use Rattle.tl_schema.specs.Formed.{IsCondition}
 use Rattle.tl_types.specs.Values.{ValueView, int, long, nat, opaque, text, truth, absent, list, node, call, ValueViews, no_values, value, values_of, list_of, count}
 use Rattle.tl_types.specs.Conditions.{is_bit, bits_of, stands_by}
 use Rattle.tl_layers.specs.Counterparts.{image}
-use Rattle.tl_layers.specs.Breaks.{field_place, IsFieldNamed, named_condition, IsSpare, NamesBit}
+use Rattle.tl_layers.specs.Breaks.{field_index, IsFieldNamed, named_condition, IsSpare, NamesBit}
 use Rattle.tl_layers.specs.Plain.{HasNamedBits}
 use Rattle.tl_layers.specs.Lifted.{lifted, lifted_each, placed, value_named}
 use Rattle.tl_layers.proofs.WovenFields.{AreWoven, ended, kept, added}
-use Rattle.tl_layers.proofs.LiftedValues.{AreApart, get_next, get_before, get_later, get_made, get_mapped, get_some, place_some, place_none, value_at, value_none, lifted_list, bits_kept, no_bit}
+use Rattle.tl_layers.proofs.LiftedValues.{AreApart, get_next, get_before, get_later, get_made, get_mapped, get_some, index_some, index_none, value_at, value_none, lifted_list, bits_kept, no_bit}
 
 -- fields without a break
 pub record AreSettled (old new : Declared) (fs gs : List Slot) : Type 0 where
@@ -22,24 +22,24 @@ pub record AreSettled (old new : Declared) (fs gs : List Slot) : Type 0 where
   pub old_conditions : (k : ℕ) (f : Slot) → slice_get fs k ≡ Some f → IsCondition fs k f.cond
   pub new_conditions : (k : ℕ) (g : Slot) → slice_get gs k ≡ Some g → IsCondition gs k g.cond
   pub keeps : (k : ℕ) (f : Slot) → slice_get fs k ≡ Some f → (m : ℕ) × (g : Slot) × IsFieldNamed gs f.name m g × (g.of ≡ image old new f.of) × (named_condition gs g.cond ≡ named_condition fs f.cond)
-  pub ordered : (p m n : ℕ) (f g : Slot) → slice_get fs p ≡ Some f → slice_get fs (suc p) ≡ Some g → field_place gs f.name ≡ Some m → field_place gs g.name ≡ Some n → m ≤ n
-  pub spare : (m : ℕ) (g : Slot) → slice_get gs m ≡ Some g → field_place fs g.name ≡ None → IsSpare fs gs g.cond
+  pub ordered : (p m n : ℕ) (f g : Slot) → slice_get fs p ≡ Some f → slice_get fs (suc p) ≡ Some g → field_index gs f.name ≡ Some m → field_index gs g.name ≡ Some n → m ≤ n
+  pub spare : (m : ℕ) (g : Slot) → slice_get gs m ≡ Some g → field_index fs g.name ≡ None → IsSpare fs gs g.cond
 
 module _ (old new : Declared) (fs gs : List Slot) (settled : AreSettled old new fs gs) where
   -- old field k stands at index m among the new ones
   pub record StandsAt (k m : ℕ) : Type 0 where
     pub f : Slot
     pub here : slice_get fs k ≡ Some f
-    pub place : field_place gs f.name ≡ Some m
+    pub index : field_index gs f.name ≡ Some m
 
   stands : (k : ℕ) (f : Slot) → slice_get fs k ≡ Some f → (m : ℕ) × StandsAt k m
-  stands k f here = let t = settled.keeps k f here in (t.0, record { f = f; here = here; place = t.2.0 })
+  stands k f here = let t = settled.keeps k f here in (t.0, record { f = f; here = here; index = t.2.0 })
 
   new_name : (k m : ℕ) → StandsAt k m → (g : Slot) × (slice_get gs m ≡ Some g) × ((f : Slot) → slice_get fs k ≡ Some f → g.name ≡ f.name)
-  new_name k m s = let p = place_some gs (s.f).name m s.place in (p.0, p.1, λ f here. p.2 ∙ ap (λ (x : Slot). x.name) (same_Some s.f f (sym s.here ∙ here)))
+  new_name k m s = let p = index_some gs (s.f).name m s.index in (p.0, p.1, λ f here. p.2 ∙ ap (λ (x : Slot). x.name) (same_Some s.f f (sym s.here ∙ here)))
 
-  one_place : (k m n : ℕ) → StandsAt k m → StandsAt k n → m ≡ n
-  one_place k m n s t = same_Some m n (sym s.place ∙ ap (λ (f : Slot). field_place gs f.name) (same_Some s.f t.f (sym s.here ∙ t.here)) ∙ t.place)
+  one_index : (k m n : ℕ) → StandsAt k m → StandsAt k n → m ≡ n
+  one_index k m n s t = same_Some m n (sym s.index ∙ ap (λ (f : Slot). field_index gs f.name) (same_Some s.f t.f (sym s.here ∙ t.here)) ∙ t.index)
 
   -- fields that stand at one index are one
   one_field : (j k m : ℕ) → StandsAt j m → StandsAt k m → j ≡ k
@@ -50,7 +50,7 @@ module _ (old new : Declared) (fs gs : List Slot) (settled : AreSettled old new 
 
   next_rises : (p m n : ℕ) → StandsAt p m → StandsAt (suc p) n → m < n
   next_rises p m n s t =
-      let le = settled.ordered p m n s.f t.f s.here t.here s.place t.place in
+      let le = settled.ordered p m n s.f t.f s.here t.here s.index t.index in
       elim (cases_order m n) [
         | inl e ↦ absurd (let one : p ≡ suc p = one_field p (suc p) m s (subst (StandsAt (suc p)) (sym e) t) in omega (arith, one))
         | inr (inl less) ↦ less
@@ -114,7 +114,7 @@ module _ (old new : Declared) (fs gs : List Slot) (settled : AreSettled old new 
       added_clear : (g : Slot) → slice_get gs (length dg) ≡ Some g → IsSpare fs gs g.cond → stands_by g.cond (news_of dg) ≡ false
       added_clear g here s =
           let c : IsCondition gs (length dg) (Some (s.at, s.bit)) = subst (IsCondition gs (length dg)) s.is (settled.new_conditions (length dg) g here) in
-          let name = place_some fs (s.h).name s.k s.here.0 in
+          let name = index_some fs (s.h).name s.k s.here.0 in
           let within = slice_get_within fs s.k name.0 name.1 in
           let v = get_some (list_of ws) s.k (omega (arith, within, count_is, length_listed ws)) in
           ap (λ cond. stands_by cond (map (λ (x : Slot). value_named fs (lifted_each old new ws) x.name) dg)) s.is
@@ -182,13 +182,13 @@ module _ (old new : Declared) (fs gs : List Slot) (settled : AreSettled old new 
       news_more : (u : ValueView) → value_named fs (lifted_each old new ws) g.name ≡ u → news_of (dg ++ g ∷ []) ≡ news_of dg ++ u ∷ []
       news_more u is = map-append (λ (x : Slot). value_named fs (lifted_each old new ws) x.name) dg (g ∷ []) ∙ ap (λ (w : ValueView). news_of dg ++ w ∷ []) is
 
-      add : (fs1 : List Slot) (vs1 : ValueViews) → fs ≡ df ++ fs1 → list_of ws ≡ bv ++ list_of vs1 → count vs1 ≡ length fs1 → field_place fs g.name ≡ None → AreWoven old new bv fs1 vs1 (news_of dg) (g ∷ gs1) (values_of (news_of (g ∷ gs1)))
+      add : (fs1 : List Slot) (vs1 : ValueViews) → fs ≡ df ++ fs1 → list_of ws ≡ bv ++ list_of vs1 → count vs1 ≡ length fs1 → field_index fs g.name ≡ None → AreWoven old new bv fs1 vs1 (news_of dg) (g ∷ gs1) (values_of (news_of (g ∷ gs1)))
       add fs1 vs1 is_old is_values few none =
           let clear = added_clear dg (g ∷ gs1) is_new g here (settled.spare (length dg) g here none) in
-          let gone : value_named fs (lifted_each old new ws) g.name ≡ absent = value_none fs (lifted_each old new ws) g.name (place_none fs g.name none) in
+          let gone : value_named fs (lifted_each old new ws) g.name ≡ absent = value_none fs (lifted_each old new ws) g.name (index_none fs g.name none) in
           let after : Stands (length df) (length (dg ++ g ∷ [])) = record {
             later = λ j l t le. elim (cases_order l (length dg)) [
-              | inl e ↦ absurd (let p = new_name j l t in place_none fs g.name none j t.f t.here (sym (ap (λ (x : Slot). x.name) (same_Some g p.0 (sym here ∙ ap (slice_get gs) (sym e) ∙ p.1)) ∙ p.2 t.f t.here)))
+              | inl e ↦ absurd (let p = new_name j l t in index_none fs g.name none j t.f t.here (sym (ap (λ (x : Slot). x.name) (same_Some g p.0 (sym here ∙ ap (slice_get gs) (sym e) ∙ p.1)) ∙ p.2 t.f t.here)))
               | inr (inl less) ↦ absurd (let low = s.later j l t le in omega (arith, low, less))
               | inr (inr more) ↦ omega (arith, more, long_new)
             ];
@@ -203,8 +203,8 @@ module _ (old new : Declared) (fs gs : List Slot) (settled : AreSettled old new 
           let at : slice_get fs (length df) ≡ Some f = ap (λ xs. slice_get xs (length df)) is_old ∙ get_next df fs1 f in
           let there : slice_get (list_of ws) (length df) ≡ Some v = ap (λ xs. slice_get xs (length df)) is_values ∙ ap (slice_get (bv ++ v ∷ list_of vs1)) (sym same) ∙ get_next bv (list_of vs1) v in
           let k = settled.keeps (length df) f at in
-          let same_place : k.0 ≡ length dg = one_place (length df) k.0 (length dg) (record { f = f; here = at; place = k.2.0 }) st in
-          let same_field : k.1 ≡ g = same_Some k.1 g (sym k.2.1 ∙ ap (slice_get gs) same_place ∙ here) in
+          let same_position : k.0 ≡ length dg = one_index (length df) k.0 (length dg) (record { f = f; here = at; index = k.2.0 }) st in
+          let same_field : k.1 ≡ g = same_Some k.1 g (sym k.2.1 ∙ ap (slice_get gs) same_position ∙ here) in
           let type : g.of ≡ image old new f.of = ap (λ (x : Slot). x.of) (sym same_field) ∙ k.3 in
           let cond : named_condition gs g.cond ≡ named_condition fs f.cond = ap (λ (x : Slot). named_condition gs x.cond) (sym same_field) ∙ k.4 in
           let alike = kept_by dg (g ∷ gs1) is_new df (f ∷ fs1) bv (value v vs1) is_old is_values same f.cond g.cond (settled.old_conditions (length df) f at) (settled.new_conditions (length dg) g here) cond in
@@ -214,7 +214,7 @@ module _ (old new : Declared) (fs gs : List Slot) (settled : AreSettled old new 
           let after : Stands (length (df ++ f ∷ [])) (length (dg ++ g ∷ [])) = record {
             later = λ j l t le. (let low = rises (length df) j (length dg) l st t (omega (arith, le, long_old)) in omega (arith, low, long_new));
             before = λ j l t lt. elim (cases_order j (length df)) [
-              | inl e ↦ (let one : l ≡ length dg = one_place (length df) l (length dg) (subst (λ i. StandsAt i l) e t) st in omega (arith, one, long_new))
+              | inl e ↦ (let one : l ≡ length dg = one_index (length df) l (length dg) (subst (λ i. StandsAt i l) e t) st in omega (arith, one, long_new))
               | inr (inl less) ↦ (let low = s.before j l t less in omega (arith, low, long_new))
               | inr (inr more) ↦ absurd (omega (arith, lt, more, long_old))
             ];
@@ -224,13 +224,13 @@ module _ (old new : Declared) (fs gs : List Slot) (settled : AreSettled old new 
           (kept bv (news_of dg) f g fs1 gs1 v vs1 (values_of (news_of gs1)) type alike (subst (λ us. AreWoven old new (bv ++ v ∷ []) fs1 vs1 us gs1 (values_of (news_of gs1))) (news_more (lifted old new v) moved) rest))
 
       -- an old field of this name stands next
-      is_next : (k : ℕ) → field_place fs g.name ≡ Some k → StandsAt k (length dg) × (k ≡ length df)
-      is_next k place =
-          let p = place_some fs g.name k place in
+      is_next : (k : ℕ) → field_index fs g.name ≡ Some k → StandsAt k (length dg) × (k ≡ length df)
+      is_next k index =
+          let p = index_some fs g.name k index in
           let t = stands k p.0 p.1 in
           let q = new_name k t.0 t.1 in
-          let same_place : t.0 ≡ length dg = settled.news t.0 (length dg) q.0 g q.1 here (q.2 p.0 p.1 ∙ p.2) in
-          let st : StandsAt k (length dg) = subst (StandsAt k) same_place t.1 in (
+          let same_position : t.0 ≡ length dg = settled.news t.0 (length dg) q.0 g q.1 here (q.2 p.0 p.1 ∙ p.2) in
+          let st : StandsAt k (length dg) = subst (StandsAt k) same_position t.1 in (
             st,
             elim (cases_order k (length df)) [
               | inl e ↦ e
@@ -245,24 +245,24 @@ module _ (old new : Declared) (fs gs : List Slot) (settled : AreSettled old new 
             ],
           )
 
-      keep_next : (fs1 : List Slot) (vs1 : ValueViews) → fs ≡ df ++ fs1 → list_of ws ≡ bv ++ list_of vs1 → count vs1 ≡ length fs1 → (k : ℕ) → field_place fs g.name ≡ Some k → AreWoven old new bv fs1 vs1 (news_of dg) (g ∷ gs1) (values_of (news_of (g ∷ gs1)))
-      keep_next [] vs1 is_old is_values few k place =
-          let p = place_some fs g.name k place in
-          let within = slice_get_within fs k p.0 p.1 in absurd (let e = (is_next k place).1 in omega (arith, within, e, ap length is_old, length-append df []))
-      keep_next (f ∷ fs1) no_values is_old is_values few k place = absurd (omega (arith, few))
-      keep_next (f ∷ fs1) (value v vs1) is_old is_values few k place =
-          let p = place_some fs g.name k place in
-          let n = is_next k place in
+      keep_next : (fs1 : List Slot) (vs1 : ValueViews) → fs ≡ df ++ fs1 → list_of ws ≡ bv ++ list_of vs1 → count vs1 ≡ length fs1 → (k : ℕ) → field_index fs g.name ≡ Some k → AreWoven old new bv fs1 vs1 (news_of dg) (g ∷ gs1) (values_of (news_of (g ∷ gs1)))
+      keep_next [] vs1 is_old is_values few k index =
+          let p = index_some fs g.name k index in
+          let within = slice_get_within fs k p.0 p.1 in absurd (let e = (is_next k index).1 in omega (arith, within, e, ap length is_old, length-append df []))
+      keep_next (f ∷ fs1) no_values is_old is_values few k index = absurd (omega (arith, few))
+      keep_next (f ∷ fs1) (value v vs1) is_old is_values few k index =
+          let p = index_some fs g.name k index in
+          let n = is_next k index in
           let at : slice_get fs k ≡ Some f = ap (slice_get fs) n.1 ∙ ap (λ xs. slice_get xs (length df)) is_old ∙ get_next df fs1 f in
           keep f fs1 v vs1 is_old is_values (let few : suc (count vs1) ≡ suc (length fs1) = few in omega (arith, few)) (ap (λ (x : Slot). x.name) (same_Some f p.0 (sym at ∙ p.1)) ∙ p.2) (subst (λ i. StandsAt i (length dg)) n.1 n.0)
 
-      one_step : (fs1 : List Slot) (vs1 : ValueViews) → fs ≡ df ++ fs1 → list_of ws ≡ bv ++ list_of vs1 → count vs1 ≡ length fs1 → (o : Option ℕ) → field_place fs g.name ≡ o → AreWoven old new bv fs1 vs1 (news_of dg) (g ∷ gs1) (values_of (news_of (g ∷ gs1)))
+      one_step : (fs1 : List Slot) (vs1 : ValueViews) → fs ≡ df ++ fs1 → list_of ws ≡ bv ++ list_of vs1 → count vs1 ≡ length fs1 → (o : Option ℕ) → field_index fs g.name ≡ o → AreWoven old new bv fs1 vs1 (news_of dg) (g ∷ gs1) (values_of (news_of (g ∷ gs1)))
       one_step fs1 vs1 is_old is_values few None none = add fs1 vs1 is_old is_values few none
-      one_step fs1 vs1 is_old is_values few (Some k) place = keep_next fs1 vs1 is_old is_values few k place
+      one_step fs1 vs1 is_old is_values few (Some k) index = keep_next fs1 vs1 is_old is_values few k index
 
     weaves : (gs1 : List Slot) → Weaves gs1
     weaves [] = λ dg df fs1 vs1 bv is_new is_old is_values same few s. no_more dg df fs1 vs1 bv is_new is_old few s
-    weaves (g ∷ gs1) = λ dg df fs1 vs1 bv is_new is_old is_values same few s. one_step g gs1 (weaves gs1) dg df bv is_new same s fs1 vs1 is_old is_values few (field_place fs g.name) refl
+    weaves (g ∷ gs1) = λ dg df fs1 vs1 bv is_new is_old is_values same few s. one_step g gs1 (weaves gs1) dg df bv is_new same s fs1 vs1 is_old is_values few (field_index fs g.name) refl
 
     pub all_woven : AreWoven old new [] fs ws [] gs (values_of (placed fs gs (lifted_each old new ws)))
     all_woven = weaves gs [] [] fs ws [] refl refl refl refl count_is (record { later = λ j l t le. omega arith; before = λ j l t lt. absurd (omega (arith, lt)) })

@@ -1,6 +1,6 @@
 -- What stands in a new schema for declarations and types of an old one. This project's own.
 use Rattle.std.specs.Prelude.{ℕ, length, position, Bool, false, not, ◌&&◌, ◌||◌, ◌==◌, nat_lt, bytes_eq, Option, Some, None, unwrap_or, if◌then◌else◌, slice_get}
-use Rattle.tl_names.specs.Places.{types_of}
+use Rattle.tl_names.specs.Indexes.{types_of}
 use Rattle.tl_schema.specs.Types.{Shape, Shapes, no_shapes, shape, vector, boxed, bare}
 use Rattle.tl_schema.specs.Schemas.{Declaration, Declared}
 

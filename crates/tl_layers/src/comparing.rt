@@ -112,7 +112,7 @@ fn earlier(before: Option<(u32, Break)>, decl: u32, cause: Break) -> (u32, Break
     }
 }
 
-// The place of a cause in their order.
+// The index of a cause in their order.
 fn rank(cause: Break) -> u32
     ensures { result ≡ rank cause }
 {

@@ -85,7 +85,7 @@ fn lacks(olds: &Fields, news: &Fields, k: u32) -> bool
     requires { k < length olds.now }
     ensures { IsTrue result ↔ LacksField olds.now news.now k }
 {
-    news.place(olds.at(k).name.as_slice()).is_none()
+    news.index_of(olds.at(k).name.as_slice()).is_none()
 }
 
 // Whether an old field stands, among the new ones, before the field that it stood after.
@@ -96,8 +96,8 @@ fn is_before(olds: &Fields, news: &Fields, k: u32) -> bool
     if k == 0 {
         return false;
     }
-    match news.place(olds.at(k - 1).name.as_slice()) {
-        Some(before) => match news.place(olds.at(k).name.as_slice()) {
+    match news.index_of(olds.at(k - 1).name.as_slice()) {
+        Some(before) => match news.index_of(olds.at(k).name.as_slice()) {
             Some(here) => here < before,
             None => false,
         },
@@ -111,7 +111,7 @@ fn is_changed(olds: &Fields, news: &Fields, pair: &Pair, k: u32) -> bool
     ensures { IsTrue result ↔ IsChanged pair.now.old pair.now.new olds.now news.now k }
 {
     let field = olds.at(k);
-    match news.place(field.name.as_slice()) {
+    match news.index_of(field.name.as_slice()) {
         Some(m) => {
             let other = news.at(m);
             !is_image(&field.of, &other.of, pair)
@@ -127,7 +127,7 @@ fn is_added(olds: &Fields, news: &Fields, m: u32) -> bool
     ensures { IsTrue result ↔ IsAdded olds.now news.now m }
 {
     let field = news.at(m);
-    olds.place(field.name.as_slice()).is_none() && !is_spare(olds, news, field.cond)
+    olds.index_of(field.name.as_slice()).is_none() && !is_spare(olds, news, field.cond)
 }
 
 // Whether the condition is a bit of an old `#` field, by which no old field stands.
@@ -141,7 +141,7 @@ fn is_spare(olds: &Fields, news: &Fields, cond: Option<(u32, u32)>) -> bool
     if m >= news.count() {
         return false;
     }
-    match olds.place(news.at(m).name.as_slice()) {
+    match olds.index_of(news.at(m).name.as_slice()) {
         Some(k) => is_number(&olds.at(k).of) && !names_bit(olds, k, bit),
         None => false,
     }

@@ -1,9 +1,9 @@
 //! The fields of a declaration, found by their names.
 ghost use Rattle.std.specs.Prelude.{◌≡◌, ◌<◌, ◌^◌, ℕ, List, IfOk, IfSome, Some, length, map, slice_get};
-ghost use Rattle.tl_names.specs.NamePlaces.{place_in};
+ghost use Rattle.tl_names.specs.NameIndexes.{index_among};
 ghost use Rattle.tl_schema.specs.Seen.{slot};
 ghost use Rattle.tl_types.specs.Parts.{fields_in};
-ghost use Rattle.tl_layers.specs.Breaks.{field_place};
+ghost use Rattle.tl_layers.specs.Breaks.{field_index};
 
 use std::alloc::{AllocError, Global};
 use std::marker::Model;
@@ -58,8 +58,8 @@ impl<'s> Fields<'s> {
     }
 
     /// The index of the field with a name.
-    pub fn place(&self, name: &[u8]) -> Option<u32>
-        ensures place { result ≡ field_place self.now name.now }
+    pub fn index_of(&self, name: &[u8]) -> Option<u32>
+        ensures index { result ≡ field_index self.now name.now }
         ensures within { IfSome result (λ k. k < length self.now) }
     {
         self.names.get(name)
@@ -69,7 +69,7 @@ impl<'s> Fields<'s> {
 // The index of each field by its name.
 fn names_of(alloc: Global, hash: NameHash, fields: &[SchemaField]) -> Result<Names, AllocError>
     requires few { length fields.now < 2 ^ 32 }
-    ensures { IfOk result (λ names. (name : List ℕ) → place_in names name ≡ field_place (map slot fields.now) name) }
+    ensures { IfOk result (λ names. (name : List ℕ) → index_among names name ≡ field_index (map slot fields.now) name) }
 {
     let mut names = Names::new(alloc, hash);
     for (i, field) in fields.iter().enumerate() {

@@ -1,6 +1,6 @@
 //! The constructors of each type, and the functions.
 ghost use Rattle.std.specs.Prelude.{◌≡◌, ◌∷◌, ◌++◌, IfOk, OnOk, [], if◌then◌else◌, length, replicate};
-ghost use Rattle.tl_names.specs.Places.{types_of};
+ghost use Rattle.tl_names.specs.Indexes.{types_of};
 ghost use Rattle.tl_plan.specs.inner.Walks.{AreHeads, lists_of, noted};
 
 use std::alloc::{AllocError, Global};

@@ -2,7 +2,7 @@
 ghost use Rattle.std.specs.Prelude.{◌≡◌, ◌<◌, IfOk, Some, length, map, slice_get};
 ghost use Rattle.tl_schema.specs.Seen.{declaration};
 ghost use Rattle.tl_types.specs.Parts.{fields_in};
-ghost use Rattle.tl_layers.specs.Breaks.{ArePair, IsSplit, field_place};
+ghost use Rattle.tl_layers.specs.Breaks.{ArePair, IsSplit, field_index};
 ghost use Rattle.tl_layers.specs.Counterparts.{counterpart};
 ghost use Rattle.tl_layers.specs.inner.FieldBreaks.{IsFirstBreak, IsHeadBreak};
 ghost use Rattle.tl_layers.specs.inner.Tables.{TellsMoved};
@@ -100,11 +100,11 @@ fn is_split(pair: &Pair, old: &Entry, new: &Entry) -> bool
 
 // For each new field the index of the old one of its name.
 fn origins_of(alloc: Global, olds: &Fields, news: &Fields) -> Result<Vec<Option<u32>>, AllocError>
-    ensures { IfOk result (λ from. from.items ≡ map (λ g. field_place olds.now g.name) news.now) }
+    ensures { IfOk result (λ from. from.items ≡ map (λ g. field_index olds.now g.name) news.now) }
 {
     let mut from = Vec::new(alloc);
     for m in 0..news.count() {
-        from.push(olds.place(news.at(m).name.as_slice()))?;
+        from.push(olds.index_of(news.at(m).name.as_slice()))?;
     }
     Ok(from)
 }

@@ -6,7 +6,7 @@ use Rattle.tl_program.specs.Program.{DeclText}
 use Rattle.tl_graph.specs.Paths.{IsIn}
 use Rattle.tl_names.specs.BareReferences.{IsBareOf}
 use Rattle.tl_names.specs.inner.BareSteps.{BareIs, RefersIn, Adds}
-use Rattle.tl_names.proofs.Places.{get_kept, get_last, get_cases}
+use Rattle.tl_names.proofs.Indexes.{get_kept, get_last, get_cases}
 
 -- one node more
 in_push : (j k : ℕ) (js : List ℕ) → IsIn j (js ++ k ∷ []) ↔ (IsIn j js ⊎ (k ≡ j))

@@ -7,7 +7,7 @@ use Rattle.tl_names.specs.Writing.{At, is_constructor}
 use Rattle.tl_names.specs.Parts.{FieldAt}
 use Rattle.tl_names.specs.BareFields.{HoldsBare, HasBareFields}
 use Rattle.tl_names.specs.inner.BareSteps.{BareFieldsAre, HeldIs, AreNeeds}
-use Rattle.tl_names.proofs.Places.{get_cases}
+use Rattle.tl_names.proofs.Indexes.{get_cases}
 
 -- ---- of one declaration
 

@@ -3,10 +3,10 @@ use Rattle.std.proofs.Common.{◌≡◌, ℕ, zero, suc, ◌+◌, ◌<◌, Bool,
 use Rattle.std.specs.Option.{unwrap_or, is_some}
 use Rattle.std.proofs.lemmas.List.{length_push, length-set}
 use Rattle.std.proofs.lemmas.Slice.Eq.{bytes_eq-Decides}
-use Rattle.tl_names.specs.NamePlaces.{place_in, Notes}
+use Rattle.tl_names.specs.NameIndexes.{index_among, Notes}
 use Rattle.tl_names.specs.inner.Indexed.{AreNumbered, Changes, at_number, at_type}
 use Rattle.tl_names.specs.declared.index.Constructors.{Constructors}
-use Rattle.tl_names.proofs.Places.{get_last}
+use Rattle.tl_names.proofs.Indexes.{get_last}
 use Rattle.tl_names.proofs.MapEntries.{notes_known}
 
 module _ {X : Type 0} where
@@ -32,26 +32,26 @@ module _ (types : List (List ℕ × ℕ)) (families : List Constructors) (name :
   changed type b = if b then Some (f (at_type types families type)) else at_type types families type
 
   -- a type that has constructors
-  pub changes_known : (number : ℕ) (x : Constructors) → place_in types name ≡ Some number → x ≡ f (slice_get families number) → Changes types families types (set families number x) name f
+  pub changes_known : (number : ℕ) (x : Constructors) → index_among types name ≡ Some number → x ≡ f (slice_get families number) → Changes types families types (set families number x) name f
   changes_known number x there is = record {
     numbers = notes_known types name (length families) number there;
     count = length-set families number x ∙ sym (ap (λ o. if is_some o then length families else length families + 1) there);
     made = λ type. by type (bytes_eq type name) refl;
   }
     where
-      other : (type : List ℕ) (o : Option ℕ) → place_in types type ≡ o → (type ≡ name → ⊥) → at_number (set families number x) o ≡ at_number families o
+      other : (type : List ℕ) (o : Option ℕ) → index_among types type ≡ o → (type ≡ name → ⊥) → at_number (set families number x) o ≡ at_number families o
       other type None at apart = refl
       other type (Some k) at apart = set_apart families number k x (λ e. apart (numbered.apart type name number (at ∙ ap Some e) there))
 
       by : (type : List ℕ) (b : Bool) → bytes_eq type name ≡ b → at_type types (set families number x) type ≡ changed type (bytes_eq type name)
       by type true h =
-          let at : place_in types type ≡ Some number = ap (place_in types) ((bytes_eq-Decides type name).0 h) ∙ there in
+          let at : index_among types type ≡ Some number = ap (index_among types) ((bytes_eq-Decides type name).0 h) ∙ there in
           ap (at_number (set families number x)) at ∙ set_here families number x (numbered.within type number at) ∙ ap Some (is ∙ sym (ap (λ o. f (at_number families o)) at)) ∙ sym (ap (changed type) h)
       by type false h =
-          other type (place_in types type) refl (λ e. true≢false (sym ((bytes_eq-Decides type name).1 e) ∙ h)) ∙ sym (ap (changed type) h)
+          other type (index_among types type) refl (λ e. true≢false (sym ((bytes_eq-Decides type name).1 e) ∙ h)) ∙ sym (ap (changed type) h)
 
   -- a type that has none yet
-  pub changes_new : (new_types : List (List ℕ × ℕ)) (x : Constructors) → place_in types name ≡ None → Notes types new_types name (length families) → x ≡ f None → Changes types families new_types (families ++ x ∷ []) name f
+  pub changes_new : (new_types : List (List ℕ × ℕ)) (x : Constructors) → index_among types name ≡ None → Notes types new_types name (length families) → x ≡ f None → Changes types families new_types (families ++ x ∷ []) name f
   changes_new new_types x none notes is = record {
     numbers = notes;
     count = length_push families x ∙ sym (ap (λ o. if is_some o then length families else length families + 1) none);
@@ -59,16 +59,16 @@ module _ (types : List (List ℕ × ℕ)) (families : List Constructors) (name :
   }
     where
       noted : List ℕ → Bool → Option ℕ
-      noted type b = if b then Some (unwrap_or (place_in types type) (length families)) else place_in types type
+      noted type b = if b then Some (unwrap_or (index_among types type) (length families)) else index_among types type
 
-      other : (type : List ℕ) (o : Option ℕ) → place_in types type ≡ o → at_number (families ++ x ∷ []) o ≡ at_number families o
+      other : (type : List ℕ) (o : Option ℕ) → index_among types type ≡ o → at_number (families ++ x ∷ []) o ≡ at_number families o
       other type None at = refl
       other type (Some k) at = get_before families x k (numbered.within type k at)
 
       by : (type : List ℕ) (b : Bool) → bytes_eq type name ≡ b → at_type new_types (families ++ x ∷ []) type ≡ changed type (bytes_eq type name)
       by type true h =
-          let at : place_in types type ≡ None = ap (place_in types) ((bytes_eq-Decides type name).0 h) ∙ none in
+          let at : index_among types type ≡ None = ap (index_among types) ((bytes_eq-Decides type name).0 h) ∙ none in
           ap (at_number (families ++ x ∷ [])) (notes type ∙ ap (noted type) h ∙ ap (λ o. Some (unwrap_or o (length families))) at)
           ∙ get_last families x ∙ ap Some (is ∙ sym (ap (λ o. f (at_number families o)) at)) ∙ sym (ap (changed type) h)
       by type false h =
-          ap (at_number (families ++ x ∷ [])) (notes type ∙ ap (noted type) h) ∙ other type (place_in types type) refl ∙ sym (ap (changed type) h)
+          ap (at_number (families ++ x ∷ [])) (notes type ∙ ap (noted type) h) ∙ other type (index_among types type) refl ∙ sym (ap (changed type) h)

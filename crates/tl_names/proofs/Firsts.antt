@@ -1,4 +1,4 @@
--- There is one first place with a property at most.
+-- There is one first index with a property at most.
 use Rattle.std.proofs.Common.{◌≡◌, inl, inr, ℕ, Option, Some, None, refl, ap}
 use Rattle.std.proofs.lemmas.Bool.{cases_order}
 use Rattle.tl_graph.specs.Firsts.{First}

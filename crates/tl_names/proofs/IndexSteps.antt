@@ -6,16 +6,16 @@ use Rattle.std.proofs.lemmas.List.{map_push}
 use Rattle.std.proofs.lemmas.Slice.Eq.{bytes_eq-Decides}
 use Rattle.tl_program.specs.Program.{DeclText}
 use Rattle.tl_names.specs.Writing.{At, is_constructor, result_head, own_type, IsConstructorOf}
-use Rattle.tl_names.specs.NamePlaces.{place_in, Notes}
-use Rattle.tl_names.specs.NameLists.{place, with_name}
-use Rattle.tl_names.specs.Places.{types_of, with_type_of}
+use Rattle.tl_names.specs.NameIndexes.{index_among, Notes}
+use Rattle.tl_names.specs.NameLists.{position_of, with_name}
+use Rattle.tl_names.specs.Indexes.{types_of, with_type_of}
 use Rattle.tl_names.specs.What.{constructor_named, type_named}
 use Rattle.tl_names.specs.declared.index.Constructors.{Constructors}
 use Rattle.tl_names.specs.Constructors.{FirstOf, IsSingle, IsFamily, var_counts}
 use Rattle.tl_names.specs.inner.Indexed.{IndexesNames, IndexesTypes, Changes, at_type, one_more}
-use Rattle.tl_names.proofs.Places.{IsPlace, HasOne, first_same, first_with, first_without, one_with, two_with, one_without, get_kept, get_last}
+use Rattle.tl_names.proofs.Indexes.{HoldsAt, HasOne, first_same, first_with, first_without, one_with, two_with, one_without, get_kept, get_last}
 use Rattle.tl_names.proofs.Positions.{position_push}
-use Rattle.tl_names.proofs.TypeNumbers.{types_of-push, place_with_name, length_with_name}
+use Rattle.tl_names.proofs.TypeNumbers.{types_of-push, index_with_name, length_with_name}
 use Rattle.tl_names.proofs.UnevenTypes.{uneven_without, uneven_first, uneven_more}
 
 -- ---- names
@@ -40,30 +40,30 @@ abbrev pub Makes : List ℕ → DeclText → Type 0
 Makes type d = (is_constructor d ≡ true) × (result_head d ≡ Some type)
 
 module _ (ds : List DeclText) (type : List ℕ) where
-  pub made_place : (j : ℕ) → ((c : DeclText) × IsConstructorOf ds type j c) → IsPlace (Makes type) ds j
-  made_place j c = record { x = c.0; there = c.1.there; has = (c.1.own, c.1.head) }
+  pub made_index : (j : ℕ) → ((c : DeclText) × IsConstructorOf ds type j c) → HoldsAt (Makes type) ds j
+  made_index j c = record { x = c.0; there = c.1.there; has = (c.1.own, c.1.head) }
 
-  pub place_made : (j : ℕ) → IsPlace (Makes type) ds j → (c : DeclText) × IsConstructorOf ds type j c
-  place_made j p = (p.x, record { there = p.there; own = p.has.0; head = p.has.1 })
+  pub index_made : (j : ℕ) → HoldsAt (Makes type) ds j → (c : DeclText) × IsConstructorOf ds type j c
+  index_made j p = (p.x, record { there = p.there; own = p.has.0; head = p.has.1 })
 
   one_single : HasOne (Makes type) ds → IsSingle ds type
   one_single one =
-      let c = place_made one.0 one.1 in (one.0, c.0, record { one = c.1; only = λ i b made. one.2 i (made_place i (b, made)) })
+      let c = index_made one.0 one.1 in (one.0, c.0, record { one = c.1; only = λ i b made. one.2 i (made_index i (b, made)) })
 
   single_one : IsSingle ds type → HasOne (Makes type) ds
   single_one single =
-      (single.0, made_place single.0 (single.1, single.2.one), λ i p. let c = place_made i p in single.2.only i c.0 c.1)
+      (single.0, made_index single.0 (single.1, single.2.one), λ i p. let c = index_made i p in single.2.only i c.0 c.1)
 
 module _ (ds : List DeclText) (d : DeclText) (type : List ℕ) where
   of_without : (Makes type d → ⊥) → (o : Option ℕ) → FirstOf ds type o → FirstOf (ds ++ d ∷ []) type o
   of_without lacks o first =
-      first_same _ _ (place_made (ds ++ d ∷ []) type) (made_place (ds ++ d ∷ []) type) o (first_without (Makes type) ds d lacks o (first_same _ _ (made_place ds type) (place_made ds type) o first))
+      first_same _ _ (index_made (ds ++ d ∷ []) type) (made_index (ds ++ d ∷ []) type) o (first_without (Makes type) ds d lacks o (first_same _ _ (made_index ds type) (index_made ds type) o first))
 
   of_with : Makes type d → (o : Option ℕ) (at : ℕ) → length ds ≡ at → FirstOf ds type o → FirstOf (ds ++ d ∷ []) type (Some (unwrap_or o at))
   of_with has o at e first =
-      first_same _ _ (place_made (ds ++ d ∷ []) type) (made_place (ds ++ d ∷ []) type) (Some (unwrap_or o at)) (first_with (Makes type) ds d has o at e (first_same _ _ (made_place ds type) (place_made ds type) o first))
+      first_same _ _ (index_made (ds ++ d ∷ []) type) (made_index (ds ++ d ∷ []) type) (Some (unwrap_or o at)) (first_with (Makes type) ds d has o at e (first_same _ _ (made_index ds type) (index_made ds type) o first))
 
-  -- the declaration at a place before the last is kept
+  -- the declaration at an index before the last is kept
   vars_kept : (k n : ℕ) → FirstOf ds type (Some k) → ((x : DeclText) → At ds k x → length x.vars ≡ n) → (x : DeclText) → At (ds ++ d ∷ []) k x → length x.vars ≡ n
   vars_kept k n first number x at =
       ap (λ (y : DeclText). length y.vars) (same_Some x first.0.0 (sym at ∙ get_kept ds d k first.0.0 first.0.1.there)) ∙ number first.0.0 first.0.1.there
@@ -84,13 +84,13 @@ module _ (ds : List DeclText) (d : DeclText) (type : List ℕ) where
   family_with has None at vars e number first = record {
     first = of_with has None at e first;
     vars = λ x there. ap (λ (y : DeclText). length y.vars) (same_Some x d (sym there ∙ ap (slice_get (ds ++ d ∷ [])) (sym e) ∙ get_last ds d)) ∙ number;
-    only = (λ only. one_single (ds ++ d ∷ []) type (one_with (Makes type) ds d has (first_same _ _ (made_place ds type) (place_made ds type) None first)), λ single. refl);
+    only = (λ only. one_single (ds ++ d ∷ []) type (one_with (Makes type) ds d has (first_same _ _ (made_index ds type) (index_made ds type) None first)), λ single. refl);
     uneven = (λ is. absurd (true≢false (sym is)), λ is. absurd (uneven_first ds d type (λ k c made. first k (c, made)) is));
   }
   family_with has (Some c) at vars e number family = record {
     first = of_with has (Some c.first) at e family.first;
     vars = vars_kept c.first c.vars family.first family.vars;
-    only = (λ only. absurd (true≢false (sym only)), λ single. absurd (two_with (Makes type) ds d has c.first (made_place ds type c.first family.first.0) (single_one (ds ++ d ∷ []) type single)));
+    only = (λ only. absurd (true≢false (sym only)), λ single. absurd (two_with (Makes type) ds d has c.first (made_index ds type c.first family.first.0) (single_one (ds ++ d ∷ []) type single)));
     uneven = uneven_more ds d type has c.first c.vars vars c.uneven family.first.0 family.vars number family.uneven;
   }
 
@@ -111,7 +111,7 @@ module _ (ds : List DeclText) (d : DeclText) where
   types_other types families none old =
       let same : types_of (ds ++ d ∷ []) ≡ types_of ds = types_of-push ds d ∙ ap (with_type_of (types_of ds)) none in
       record {
-        numbers = λ type. old.numbers type ∙ sym (ap (place type) same);
+        numbers = λ type. old.numbers type ∙ sym (ap (position_of type) same);
         count = old.count ∙ sym (ap length same);
         made = λ type. family_without ds d type (λ has. none-some type (sym none ∙ made_type d type has)) (at_type types families type) (old.made type);
       }
@@ -120,10 +120,10 @@ module _ (ds : List DeclText) (d : DeclText) where
     more : types_of (ds ++ d ∷ []) ≡ with_name (types_of ds) made
     more = types_of-push ds d ∙ ap (with_type_of (types_of ds)) own
 
-    numbers_more : (type : List ℕ) → place_in new_types type ≡ type_named (ds ++ d ∷ []) type
+    numbers_more : (type : List ℕ) → index_among new_types type ≡ type_named (ds ++ d ∷ []) type
     numbers_more type =
         changes.numbers type ∙ ap (λ o. if bytes_eq type made then Some (unwrap_or o (length old)) else o) (before.numbers type)
-        ∙ ap (λ n. if bytes_eq type made then Some (unwrap_or (type_named ds type) n) else type_named ds type) before.count ∙ sym (ap (place type) more ∙ place_with_name (types_of ds) made type)
+        ∙ ap (λ n. if bytes_eq type made then Some (unwrap_or (type_named ds type) n) else type_named ds type) before.count ∙ sym (ap (position_of type) more ∙ index_with_name (types_of ds) made type)
 
     count_more : length new ≡ length (types_of (ds ++ d ∷ []))
     count_more =

@@ -62,10 +62,10 @@ last_after xs i at =
     let found = position-Some (λ b. b == 46) xs i 0 at in
     ap (λ n. last_word (drop n xs)) (add-one i) ∙ last_after_dot xs i found.0 found.1
 
-no_place : (b : Bool) (i : ℕ) → cond b (Some i) None ≡ None → b ≡ false
-no_place true i h = absurd (none-some i (sym h))
-no_place false i h = refl
+no_index : (b : Bool) (i : ℕ) → cond b (Some i) None ≡ None → b ≡ false
+no_index true i h = absurd (none-some i (sym h))
+no_index false i h = refl
 
 pub last_whole : (xs : List ℕ) → position (λ b. b == 46) xs ≡ None → last_word xs ≡ xs
 last_whole xs none =
-    last_of_one xs (no_dot xs (ltb-false (position_or_len (λ b. b == 46) xs) (length xs) (no_place _ _ none)))
+    last_of_one xs (no_dot xs (ltb-false (position_or_len (λ b. b == 46) xs) (length xs) (no_index _ _ none)))

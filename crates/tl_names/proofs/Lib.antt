@@ -1,5 +1,5 @@
 pub mod LastWords
-pub mod Places
+pub mod Indexes
 pub mod Positions
 pub mod TypeNumbers
 pub mod UnevenTypes
@@ -26,5 +26,5 @@ pub mod AddingParts
 pub mod ReferenceLists
 pub mod BareFields
 pub mod EmptyNodes
-pub mod TestedPlaces
-pub mod FirstPlaces
+pub mod TestedIndexes
+pub mod FirstIndexes

@@ -4,11 +4,11 @@ use Rattle.std.specs.Map.{lookup}
 use Rattle.std.specs.Option.{unwrap_or, is_some}
 use Rattle.std.proofs.lemmas.Slice.Eq.{bytes_eq-Decides}
 use Rattle.indexmap.specs.IndexMap.{insert_entry}
-use Rattle.tl_names.specs.NamePlaces.{place_in, places_in, Notes}
+use Rattle.tl_names.specs.NameIndexes.{index_among, indexes_in, Notes}
 
-pub place_in_entries : {A : Type 0} (name : List ℕ) (entries : List (Vec ℕ A × ℕ)) → lookup (λ (k : Vec ℕ A). bytes_eq name k.items) entries ≡ place_in (places_in entries) name
-place_in_entries name [] = refl
-place_in_entries name (e ∷ es) = ap (cond (bytes_eq name e.0.items) (Some e.1)) (place_in_entries name es)
+pub index_among_entries : {A : Type 0} (name : List ℕ) (entries : List (Vec ℕ A × ℕ)) → lookup (λ (k : Vec ℕ A). bytes_eq name k.items) entries ≡ index_among (indexes_in entries) name
+index_among_entries name [] = refl
+index_among_entries name (e ∷ es) = ap (cond (bytes_eq name e.0.items) (Some e.1)) (index_among_entries name es)
 
 module _ (v w : ℕ) (old : Option ℕ) where
   one_test : (b : Bool) → cond b (Some v) old ≡ (if b then Some v else cond b (Some w) old)
@@ -25,7 +25,7 @@ module _ {A : Type 0} (key : Vec ℕ A) (v : ℕ) (n : List ℕ) where
   same_name x y = bytes_eq x.items y.items
 
   abbrev found : List (Vec ℕ A × ℕ) → Option ℕ
-  found es = place_in (places_in es) n
+  found es = index_among (indexes_in es) n
 
   -- the value at its key, and elsewhere what was there
   found_inserted : (es : List (Vec ℕ A × ℕ)) → found (insert_entry same_name es key v) ≡ (if bytes_eq n key.items then Some v else found es)
@@ -54,27 +54,27 @@ none_from (Some x) b told denied = absurd (true≢false (sym told ∙ denied))
 
 module _ (old : List (List ℕ × ℕ)) (name : List ℕ) (at : ℕ) where
   -- a name that has a number keeps it
-  pub notes_known : (x : ℕ) → place_in old name ≡ Some x → Notes old old name at
+  pub notes_known : (x : ℕ) → index_among old name ≡ Some x → Notes old old name at
   notes_known x is n = by (bytes_eq n name) refl
     where
-      by : (b : Bool) → bytes_eq n name ≡ b → place_in old n ≡ (if bytes_eq n name then Some (unwrap_or (place_in old n) at) else place_in old n)
+      by : (b : Bool) → bytes_eq n name ≡ b → index_among old n ≡ (if bytes_eq n name then Some (unwrap_or (index_among old n) at) else index_among old n)
       by true h =
-          let there = ap (place_in old) ((bytes_eq-Decides n name).0 h) ∙ is in
-          there ∙ sym (ap (λ b. if b then Some (unwrap_or (place_in old n) at) else place_in old n) h ∙ ap (λ o. Some (unwrap_or o at)) there)
-      by false h = sym (ap (λ b. if b then Some (unwrap_or (place_in old n) at) else place_in old n) h)
+          let there = ap (index_among old) ((bytes_eq-Decides n name).0 h) ∙ is in
+          there ∙ sym (ap (λ b. if b then Some (unwrap_or (index_among old n) at) else index_among old n) h ∙ ap (λ o. Some (unwrap_or o at)) there)
+      by false h = sym (ap (λ b. if b then Some (unwrap_or (index_among old n) at) else index_among old n) h)
 
 module _ {A : Type 0} (old new : List (Vec ℕ A × ℕ)) (key : Vec ℕ A) (name : List ℕ) (at : ℕ) where
   -- a name that had none has this one
-  pub notes_inserted : key.items ≡ name → place_in (places_in old) name ≡ None → new ≡ insert_entry (λ x y. bytes_eq x.items y.items) old key at → Notes (places_in old) (places_in new) name at
+  pub notes_inserted : key.items ≡ name → index_among (indexes_in old) name ≡ None → new ≡ insert_entry (λ x y. bytes_eq x.items y.items) old key at → Notes (indexes_in old) (indexes_in new) name at
   notes_inserted named none entries n = is ∙ by (bytes_eq n name) refl
     where
-      is : place_in (places_in new) n ≡ (if bytes_eq n name then Some at else place_in (places_in old) n)
+      is : index_among (indexes_in new) n ≡ (if bytes_eq n name then Some at else index_among (indexes_in old) n)
       is =
-          ap (λ es. place_in (places_in es) n) entries ∙ found_inserted key at n old ∙ ap (λ (w : List ℕ). if bytes_eq n w then Some at else place_in (places_in old) n) named
+          ap (λ es. index_among (indexes_in es) n) entries ∙ found_inserted key at n old ∙ ap (λ (w : List ℕ). if bytes_eq n w then Some at else index_among (indexes_in old) n) named
 
-      by : (b : Bool) → bytes_eq n name ≡ b → (if bytes_eq n name then Some at else place_in (places_in old) n) ≡ (if bytes_eq n name then Some (unwrap_or (place_in (places_in old) n) at) else place_in (places_in old) n)
+      by : (b : Bool) → bytes_eq n name ≡ b → (if bytes_eq n name then Some at else index_among (indexes_in old) n) ≡ (if bytes_eq n name then Some (unwrap_or (index_among (indexes_in old) n) at) else index_among (indexes_in old) n)
       by true h =
-          let none_there : place_in (places_in old) n ≡ None = ap (place_in (places_in old)) ((bytes_eq-Decides n name).0 h) ∙ none in
-          ap (λ (w : Option ℕ). if bytes_eq n name then Some (unwrap_or w at) else place_in (places_in old) n) (sym none_there)
+          let none_there : index_among (indexes_in old) n ≡ None = ap (index_among (indexes_in old)) ((bytes_eq-Decides n name).0 h) ∙ none in
+          ap (λ (w : Option ℕ). if bytes_eq n name then Some (unwrap_or w at) else index_among (indexes_in old) n) (sym none_there)
       by false h =
-          ap (λ b. if b then Some at else place_in (places_in old) n) h ∙ sym (ap (λ b. if b then Some (unwrap_or (place_in (places_in old) n) at) else place_in (places_in old) n) h)
+          ap (λ b. if b then Some at else index_among (indexes_in old) n) h ∙ sym (ap (λ b. if b then Some (unwrap_or (index_among (indexes_in old) n) at) else index_among (indexes_in old) n) h)

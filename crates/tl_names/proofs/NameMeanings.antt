@@ -13,16 +13,16 @@ use Rattle.tl_program.specs.BuiltIns.{built_in}
 use Rattle.tl_program.specs.declared.built_in.BuiltIn.{BuiltIn}
 use Rattle.tl_names.specs.Writing.{is_built_in, is_constructor, is_type_name, is_variable, own_type, head_in, result_head, IsConstructorNamed}
 use Rattle.tl_names.specs.NameLists.{with_name}
-use Rattle.tl_names.specs.Places.{is_type, types_of, with_type_of}
+use Rattle.tl_names.specs.Indexes.{is_type, types_of, with_type_of}
 use Rattle.tl_names.specs.Constructors.{FirstNamed, FirstOf}
 use Rattle.tl_names.specs.What.{base_what, constructor_named, constructor_what, declared_what, known_what, type_meant, type_named, type_what, unless_built_in, unless_variable, variable_named, what_of}
 use Rattle.tl_names.specs.Meants.{MeantView, meant}
 use Rattle.tl_names.specs.Meants as resolved
 use Rattle.tl_names.specs.MeantDecls.{head_number}
 use Rattle.tl_names.specs.declared.what.What.{What}
-use Rattle.tl_names.proofs.Places.{IsPlace, first_same}
+use Rattle.tl_names.proofs.Indexes.{HoldsAt, first_same}
 use Rattle.tl_names.proofs.Positions.{first_position, position_not_there, position_there}
-use Rattle.tl_names.proofs.IndexSteps.{Makes, made_place, place_made}
+use Rattle.tl_names.proofs.IndexSteps.{Makes, made_index, index_made}
 
 -- ---- constructors of a name
 
@@ -36,7 +36,7 @@ is_named name d =
 -- the index of a name is that of its first constructor
 pub first_named : (ds : List DeclText) (name : List ℕ) → FirstNamed ds name (constructor_named ds name)
 first_named ds name =
-    first_same _ _ (λ j (p : IsPlace (IsNamed name) ds j). (p.x, record { there = p.there; own = p.has.0; named = p.has.1 })) (λ j (c : (d : DeclText) × IsConstructorNamed ds name j d). record { x = c.0; there = c.1.there; has = (c.1.own, c.1.named) }) (constructor_named ds name) (first_position _ (IsNamed name) (is_named name) ds)
+    first_same _ _ (λ j (p : HoldsAt (IsNamed name) ds j). (p.x, record { there = p.there; own = p.has.0; named = p.has.1 })) (λ j (c : (d : DeclText) × IsConstructorNamed ds name j d). record { x = c.0; there = c.1.there; has = (c.1.own, c.1.named) }) (constructor_named ds name) (first_position _ (IsNamed name) (is_named name) ds)
 
 -- ---- constructors of a type
 
@@ -55,7 +55,7 @@ makes_type type d = is_type type (own_type d)
 -- the first constructor of a type
 pub first_made : (ds : List DeclText) (type : List ℕ) → FirstOf ds type (position (makes_type type) ds)
 first_made ds type =
-    first_same _ _ (place_made ds type) (made_place ds type) (position (makes_type type) ds) (first_position _ (Makes type) (makes type) ds)
+    first_same _ _ (index_made ds type) (made_index ds type) (position (makes_type type) ds) (first_position _ (Makes type) (makes type) ds)
 
 -- ---- a type has a number where a constructor makes it
 

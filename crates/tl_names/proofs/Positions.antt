@@ -10,7 +10,7 @@ use Rattle.std.proofs.lemmas.List.Quantifiers.{position-Some}
 use Rattle.std.proofs.lemmas.List.Sums.{prefix_len-le-length}
 use Rattle.std.proofs.lemmas.Option.{none-some, same_Some, slice_get-get_or, get_or_from_slice_get}
 use Rattle.tl_graph.specs.Firsts.{First}
-use Rattle.tl_names.proofs.Places.{IsPlace}
+use Rattle.tl_names.proofs.Indexes.{HoldsAt}
 
 if_same : {X : Type 0} (b : Bool) (x : X) → x ≡ (if b then x else x)
 if_same true x = refl
@@ -100,21 +100,21 @@ module _ {X : Type 0} (test : X → Bool) where
       by false e (suc k) at rest = rest (sym (ap (λ b. b || list_any test ys) e) ∙ none) k x at
 
 module _ {X : Type 0} (test : X → Bool) (P : X → Type 0) (decides : (x : X) → Decides (test x) (P x)) where
-  first_some : (xs : List X) (k : ℕ) → position test xs ≡ Some k → First (IsPlace P xs) (Some k)
+  first_some : (xs : List X) (k : ℕ) → position test xs ≡ Some k → First (HoldsAt P xs) (Some k)
   first_some [] k at = absurd (none-some k at)
   first_some (y ∷ ys) k at =
       let found = position-Some test (y ∷ ys) k y at in
       let x = get_or (y ∷ ys) k y in
       (record { x = x; there = slice_get-get_or (y ∷ ys) k y found.0; has = (decides x).0 found.1 }, λ j below p. true≢false (sym ((decides p.x).1 p.has) ∙ sym (ap test (get_or_from_slice_get (y ∷ ys) j p.x y p.there)) ∙ found.2 j below))
 
-  first_none : (xs : List X) → list_any test xs ≡ false → First (IsPlace P xs) None
+  first_none : (xs : List X) → list_any test xs ≡ false → First (HoldsAt P xs) None
   first_none xs none k p = true≢false (sym ((decides p.x).1 p.has) ∙ none_there test xs none k p.x p.there)
 
   -- the first index at which the test passes is that of the first element with the property
-  pub first_position : (xs : List X) → First (IsPlace P xs) (position test xs)
+  pub first_position : (xs : List X) → First (HoldsAt P xs) (position test xs)
   first_position xs = by (list_any test xs) refl
     where
-      by : (b : Bool) → list_any test xs ≡ b → First (IsPlace P xs) (position test xs)
+      by : (b : Bool) → list_any test xs ≡ b → First (HoldsAt P xs) (position test xs)
       by true e =
-          let at = position_there test xs e in subst (First (IsPlace P xs)) (sym at) (first_some xs (position_or_len test xs) at)
-      by false e = subst (First (IsPlace P xs)) (sym (position_not_there test xs e)) (first_none xs e)
+          let at = position_there test xs e in subst (First (HoldsAt P xs)) (sym at) (first_some xs (position_or_len test xs) at)
+      by false e = subst (First (HoldsAt P xs)) (sym (position_not_there test xs e)) (first_none xs e)

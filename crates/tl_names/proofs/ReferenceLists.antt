@@ -7,7 +7,7 @@ use Rattle.tl_graph.specs.Paths.{Edge}
 use Rattle.tl_names.specs.Writing.{At}
 use Rattle.tl_names.specs.BareReferences.{PointsTo}
 use Rattle.tl_names.specs.inner.BareSteps.{Refers, AreReferences}
-use Rattle.tl_names.proofs.Places.{get_cases}
+use Rattle.tl_names.proofs.Indexes.{get_cases}
 
 -- the edges are those of the first declarations
 pub record AreFirst (ds : List DeclText) (n : ℕ) (edges : List (List ℕ)) : Type 0 where
@@ -24,8 +24,8 @@ module _ (ds : List DeclText) where
     each = λ k c is here there. elim (get_cases edges js k is there) [
       | inl before ↦ first.each k c is here before
       | inr last ↦
-          let place : n ≡ k = sym first.count ∙ sym last.0 in
-          let same : d ≡ c = same_Some d c (sym at ∙ subst (λ i. At ds i c) (sym place) here) in
+          let index : n ≡ k = sym first.count ∙ sym last.0 in
+          let same : d ≡ c = same_Some d c (sym at ∙ subst (λ i. At ds i c) (sym index) here) in
           subst (λ (x : DeclText). Refers ds x is) same (subst (Refers ds d) last.1 refers)
     ];
   }

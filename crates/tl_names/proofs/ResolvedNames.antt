@@ -5,7 +5,7 @@ use Rattle.tl_program.specs.Trees.{Tree, Trees, named, percent, any_call, no_tre
 use Rattle.tl_program.specs.Program.{KindText, FieldText, DeclText}
 use Rattle.tl_program.specs.Program as written
 use Rattle.tl_names.specs.Writing.{own_type}
-use Rattle.tl_names.specs.NamePlaces.{place_in, Notes}
+use Rattle.tl_names.specs.NameIndexes.{index_among, Notes}
 use Rattle.tl_names.specs.What.{known_what, unless_variable, what_of, variable_named, field_named}
 use Rattle.tl_names.specs.Meants.{MeantView, and_meant, meant, meant_by, meants_by, meants_of}
 use Rattle.tl_names.specs.Meants as resolved
@@ -40,20 +40,20 @@ module _ (ds : List DeclText) (d : DeclText) (vars : List (List ℕ × ℕ)) (nu
   pub type_same : (t : Tree) → meant_by (what_in ds vars) t ≡ meant ds d t
   type_same t = meant_same (what_in ds vars) (what_of ds d) what_same t
 
-  kind_same : (k : KindText) → kind_by (what_in ds vars) (place_in vars) k ≡ kind_by (what_of ds d) (variable_named d) k
+  kind_same : (k : KindText) → kind_by (what_in ds vars) (index_among vars) k ≡ kind_by (what_of ds d) (variable_named d) k
   kind_same written.nat = refl
   kind_same written.flag = refl
   kind_same (written.call var) = ap call (numbers var)
   kind_same (written.of t) = ap of (type_same t)
 
-  field_same : (f : FieldText) → field_by (what_in ds vars) (place_in vars) (field_named d) f ≡ meant_field ds d f
+  field_same : (f : FieldText) → field_by (what_in ds vars) (index_among vars) (field_named d) f ≡ meant_field ds d f
   field_same f = ap {B = MeantFieldView} (λ kind. record { cond = option_map (cond_by (field_named d)) f.cond; kind = kind }) (kind_same f.kind)
 
-  each_same : (fs : List FieldText) → map (field_by (what_in ds vars) (place_in vars) (field_named d)) fs ≡ map (meant_field ds d) fs
+  each_same : (fs : List FieldText) → map (field_by (what_in ds vars) (index_among vars) (field_named d)) fs ≡ map (meant_field ds d) fs
   each_same [] = refl
   each_same (f ∷ fs) = ap₂ (λ x xs. x ∷ xs) (field_same f) (each_same fs)
 
-  pub fields_same : map (field_by (what_in ds vars) (place_in vars) (field_in d.fields)) d.fields ≡ map (meant_field ds d) d.fields
+  pub fields_same : map (field_by (what_in ds vars) (index_among vars) (field_in d.fields)) d.fields ≡ map (meant_field ds d) d.fields
   fields_same = each_same d.fields
 
 -- ---- numbers of names

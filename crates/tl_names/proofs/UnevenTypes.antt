@@ -5,7 +5,7 @@ use Rattle.std.proofs.lemmas.Bool.{cases_Bool, cases_eq, both_ways, or_cases, or
 use Rattle.tl_program.specs.Program.{DeclText}
 use Rattle.tl_names.specs.Writing.{At, is_constructor, result_head, IsConstructorOf}
 use Rattle.tl_names.specs.Constructors.{IsUneven}
-use Rattle.tl_names.proofs.Places.{get_kept, get_last, get_cases}
+use Rattle.tl_names.proofs.Indexes.{get_kept, get_last, get_cases}
 
 module _ (ds : List DeclText) (d : DeclText) (type : List ℕ) where
   -- d is a constructor of the type

@@ -1,7 +1,7 @@
-pub mod NamePlaces
+pub mod NameIndexes
 pub mod NameLists
 pub mod Writing
-pub mod Places
+pub mod Indexes
 pub mod What
 pub mod Constructors
 pub mod Meants

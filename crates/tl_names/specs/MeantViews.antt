@@ -3,8 +3,8 @@ use Rattle.std.specs.Prelude.{◌≡◌, ℕ, List, map, Option, bytes_eq, posit
 use Rattle.std.specs.Box.{box_value}
 use Rattle.tl_program.specs.Program.{FieldText, DeclText}
 use Rattle.tl_names.specs.What.{known_what, unless_variable}
-use Rattle.tl_names.specs.NamePlaces.{place_in}
-use Rattle.tl_names.specs.NameLists.{place}
+use Rattle.tl_names.specs.NameIndexes.{index_among}
+use Rattle.tl_names.specs.NameLists.{position_of}
 use Rattle.tl_names.specs.Meants.{MeantView, named, percent, any_call, meants_of}
 use Rattle.tl_names.specs.MeantDecls.{MeantKindView, nat, flag, call, of, MeantFieldView, MeantDeclView}
 use Rattle.tl_names.specs.declared.what.What.{What}
@@ -47,11 +47,11 @@ decl_view d = record {
 
 -- what a name means, with these variables
 abbrev pub what_in : List DeclText → List (List ℕ × ℕ) → List ℕ → What
-what_in ds vars name = unless_variable (place_in vars name) (known_what ds name)
+what_in ds vars name = unless_variable (index_among vars name) (known_what ds name)
 
 -- each variable has the first index at which it stands
 abbrev pub NumbersNames : List (List ℕ) → List (List ℕ × ℕ) → Type 0
-NumbersNames names numbers = (name : List ℕ) → place_in numbers name ≡ place name names
+NumbersNames names numbers = (name : List ℕ) → index_among numbers name ≡ position_of name names
 
 -- the first field with the name
 abbrev pub field_in : List FieldText → List ℕ → Option ℕ

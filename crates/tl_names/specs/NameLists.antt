@@ -7,8 +7,8 @@ abbrev pub with_name : List (List ℕ) → List ℕ → List (List ℕ)
 with_name names name = if list_any (bytes_eq name) names then names else names ++ name ∷ []
 
 -- the first index at which the name stands
-abbrev pub place : List ℕ → List (List ℕ) → Option ℕ
-place name names = position (bytes_eq name) names
+abbrev pub position_of : List ℕ → List (List ℕ) → Option ℕ
+position_of name names = position (bytes_eq name) names
 
 -- element k of the list stands earlier in it too
 pub record IsRepeat {X : Type 0} (xs : List X) (k : ℕ) : Type 0 where

@@ -5,19 +5,19 @@ use Rattle.tl_program.specs.Program.{DeclText}
 use Rattle.tl_program.specs.BuiltIns.{built_in}
 use Rattle.tl_program.specs.declared.built_in.BuiltIn.{BuiltIn}
 use Rattle.tl_names.specs.Writing.{is_constructor, is_type_name}
-use Rattle.tl_names.specs.NameLists.{place}
-use Rattle.tl_names.specs.Places.{types_of}
+use Rattle.tl_names.specs.NameLists.{position_of}
+use Rattle.tl_names.specs.Indexes.{types_of}
 use Rattle.tl_names.specs.declared.what.What.{What}
 
 -- the index of the variable, of the first constructor and of the first field of a name, and the number of the type
 abbrev pub variable_named : DeclText → List ℕ → Option ℕ
-variable_named d name = place name d.vars
+variable_named d name = position_of name d.vars
 
 abbrev pub constructor_named : List DeclText → List ℕ → Option ℕ
 constructor_named ds name = position (λ d. is_constructor d && bytes_eq name d.name) ds
 
 abbrev pub type_named : List DeclText → List ℕ → Option ℕ
-type_named ds name = place name (types_of ds)
+type_named ds name = position_of name (types_of ds)
 
 abbrev pub field_named : DeclText → List ℕ → Option ℕ
 field_named d name = position (λ f. bytes_eq name f.name) d.fields

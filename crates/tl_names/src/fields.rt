@@ -2,7 +2,7 @@
 ghost use Rattle.std.specs.Prelude.{◌≡◌, ◌≤◌, IfOk, bytes_eq, length, map, position};
 ghost use Rattle.std.specs.Option.{option_map};
 ghost use Rattle.tl_program.specs.Program.{FieldText, cond_texts, field_text, kind_text, part_limit};
-ghost use Rattle.tl_names.specs.NamePlaces.{place_in};
+ghost use Rattle.tl_names.specs.NameIndexes.{index_among};
 ghost use Rattle.tl_names.specs.MeantDecls.{cond_by, field_by, kind_by};
 ghost use Rattle.tl_names.specs.MeantViews.{field_in, field_view, kind_view, what_in};
 
@@ -22,7 +22,7 @@ pub fn meant_fields(
     fields: &[Field],
 ) -> Result<Vec<MeantField>, AllocError>
     requires { length fields.now ≤ part_limit }
-    ensures { IfOk result (λ fs. map field_view fs.items ≡ map (field_by (what_in index.now vars.now) (place_in vars.now) (field_in (map field_text fields.now))) (map field_text fields.now)) }
+    ensures { IfOk result (λ fs. map field_view fs.items ≡ map (field_by (what_in index.now vars.now) (index_among vars.now) (field_in (map field_text fields.now))) (map field_text fields.now)) }
 {
     let mut meant = Vec::new(alloc);
     for field in fields {
@@ -40,7 +40,7 @@ fn meant_field(
     field: &Field,
 ) -> Result<MeantField, AllocError>
     requires { length fields.now ≤ part_limit }
-    ensures { IfOk result (λ f. field_view f ≡ field_by (what_in index.now vars.now) (place_in vars.now) (field_in (map field_text fields.now)) (field_text field.now)) }
+    ensures { IfOk result (λ f. field_view f ≡ field_by (what_in index.now vars.now) (index_among vars.now) (field_in (map field_text fields.now)) (field_text field.now)) }
 {
     Ok(MeantField {
         cond: meant_cond(fields, &field.cond),
@@ -86,7 +86,7 @@ fn meant_kind(
     vars: &Names,
     kind: &FieldKind,
 ) -> Result<MeantKind, AllocError>
-    ensures { IfOk result (λ k. kind_view k ≡ kind_by (what_in index.now vars.now) (place_in vars.now) (kind_text kind.now)) }
+    ensures { IfOk result (λ k. kind_view k ≡ kind_by (what_in index.now vars.now) (index_among vars.now) (kind_text kind.now)) }
 {
     match kind {
         FieldKind::Nat => Ok(MeantKind::Nat),

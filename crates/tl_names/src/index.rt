@@ -3,8 +3,8 @@ ghost use Rattle.std.specs.Prelude.{◌≡◌, ◌∷◌, [], ◌++◌, ◌<◌,
 ghost use Rattle.tl_program.specs.Program.{DeclText, decl_text, program_text};
 ghost use Rattle.tl_names.specs.Constructors.{AreConstructors, IsFamily, var_counts};
 ghost use Rattle.tl_names.specs.inner.Indexed.{AreNumbered, Changes, IndexesNames, IndexesTypes, one_more};
-ghost use Rattle.tl_names.specs.NamePlaces.{place_in};
-ghost use Rattle.tl_names.specs.Places.{types_of};
+ghost use Rattle.tl_names.specs.NameIndexes.{index_among};
+ghost use Rattle.tl_names.specs.Indexes.{types_of};
 ghost use Rattle.tl_names.specs.What.{base_what, constructor_named, declared_what, known_what, type_meant, type_named, unless_variable};
 ghost use Rattle.tl_names.specs.Writing.{own_type};
 
@@ -100,7 +100,7 @@ impl Index {
 
     /// What a name means where a declaration with these variables writes it.
     pub fn what(&self, vars: &Names, name: &[u8]) -> What
-        ensures { result ≡ unless_variable (place_in vars.now name.now) (known_what self.now name.now) }
+        ensures { result ≡ unless_variable (index_among vars.now name.now) (known_what self.now name.now) }
     {
         match vars.get(name) {
             Some(index) => What::Variable { index },

@@ -1,6 +1,6 @@
 //! Numbers by name.
 ghost use Rattle.std.specs.Prelude.{◌≡◌, [], IfOk, OnOk, OnErr, is_none};
-ghost use Rattle.tl_names.specs.NamePlaces.{Notes, place_in};
+ghost use Rattle.tl_names.specs.NameIndexes.{Notes, index_among};
 
 use crate::name_hash::NameHash;
 use indexmap::IndexMap;
@@ -21,11 +21,11 @@ impl Drop for Names {
 
 impl Model for Names {
     ghost use Rattle.std.specs.Prelude.{List, ℕ};
-    ghost use Rattle.tl_names.specs.NamePlaces.{places_in};
+    ghost use Rattle.tl_names.specs.NameIndexes.{indexes_in};
 
     ghost Value = { List (List ℕ × ℕ) };
 
-    ghost view = { λ p. places_in p.map.entries };
+    ghost view = { λ p. indexes_in p.map.entries };
 }
 
 impl Names {
@@ -39,7 +39,7 @@ impl Names {
 
     /// The number of a name.
     pub fn get(&self, name: &[u8]) -> Option<u32>
-        ensures { result ≡ place_in self.now name.now }
+        ensures { result ≡ index_among self.now name.now }
     {
         self.map.get(name).copied()
     }
@@ -47,7 +47,7 @@ impl Names {
     /// Notes the number of a name that has none yet, and tells whether it had none.
     pub fn note(&mut self, alloc: Global, name: &[u8], at: u32) -> Result<bool, AllocError>
         ensures noted { OnOk result (Notes self.old self.new name.now at) }
-        ensures fresh { IfOk result (λ fresh. fresh ≡ is_none (place_in self.old name.now)) }
+        ensures fresh { IfOk result (λ fresh. fresh ≡ is_none (index_among self.old name.now)) }
         ensures err { OnErr result (self.new ≡ self.old) }
     {
         if self.get(name).is_some() {

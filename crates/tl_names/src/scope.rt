@@ -1,7 +1,7 @@
 //! What the names mean that a declaration writes.
 ghost use Rattle.std.specs.Prelude.{◌≡◌, IfOk, length};
 ghost use Rattle.tl_program.specs.Program.{HasFewParts, decl_text};
-ghost use Rattle.tl_names.specs.Places.{first_of, head_of, place_of, variable_of};
+ghost use Rattle.tl_names.specs.Indexes.{first_of, head_of, constructor_index, variable_of};
 ghost use Rattle.tl_names.specs.Writing.{is_variable};
 
 use crate::declarations::numbered;
@@ -80,8 +80,8 @@ impl<'t> Scope<'t> {
     }
 
     /// The index of the constructor with this name, or the number of declarations.
-    pub fn place(&self, name: &[u8]) -> u32
-        ensures { result ≡ place_of self.now.0 name.now }
+    pub fn constructor_index(&self, name: &[u8]) -> u32
+        ensures { result ≡ constructor_index self.now.0 name.now }
     {
         match self.index.constructor(name) {
             Some(index) => index,

@@ -1,7 +1,7 @@
 -- The declarations of a type: they are those that they should be.
 use Rattle.std.proofs.Common.{◌≡◌, ℕ, zero, suc, ◌+◌, ◌<◌, List, [], ◌∷◌, length, slice_get, Some, Bool, true, false, refl, ap, ◌∙◌, nat_lt, if◌then◌else◌, arith, eq-eqb, eqb-true, ◌==◌}
 use Rattle.std.proofs.lemmas.Bool.Decides.{nat_tests}
-use Rattle.tl_names.specs.Places.{types_of}
+use Rattle.tl_names.specs.Indexes.{types_of}
 use Rattle.tl_schema.specs.Schemas.{Declaration, Declared}
 use Rattle.tl_schema.specs.Formed.{IsFunction, IsMember}
 use Rattle.tl_plan.specs.Entries.{constructors_of, functions_of, indices_from}

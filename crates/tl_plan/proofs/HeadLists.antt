@@ -2,7 +2,7 @@
 use Rattle.std.proofs.Common.{◌≡◌, ℕ, zero, suc, ◌+◌, ◌<◌, ◌≤◌, List, [], ◌∷◌, ◌++◌, length, take, replicate, get_or, set, slice_get, Some, Bool, true, false, refl, ap, ap₂, sym, ◌∙◌, arith, if◌then◌else◌, nat_lt, ◌==◌, eqb-true, Vec}
 use Rattle.std.proofs.lemmas.Bool.Decides.{nat_tests}
 use Rattle.std.proofs.lemmas.List.{get_or_past, map_push, take_all, length-take}
-use Rattle.tl_names.specs.Places.{types_of}
+use Rattle.tl_names.specs.Indexes.{types_of}
 use Rattle.tl_names.proofs.Maps.{take_push}
 use Rattle.tl_schema.specs.Schemas.{Declaration, Declared}
 use Rattle.tl_plan.specs.Entries.{constructors_of, indices_from}

@@ -7,15 +7,15 @@ use Rattle.std.specs.Cmp.Lexicographic.{slice_cmp}
 use Rattle.std.specs.BTreeMap.{insert_entry}
 use Rattle.std.proofs.lemmas.Cmp.{same_from_slice_cmp}
 use Rattle.std.proofs.lemmas.Slice.Eq.{bytes_eq-Decides}
-use Rattle.tl_names.specs.NamePlaces.{place_in, places_in}
+use Rattle.tl_names.specs.NameIndexes.{index_among, indexes_in}
 
 -- the order calls the names equal whose bytes are
 pub same_bytes : (xs ys : List ℕ) (o : Ordering) → o ≡ slice_cmp nat_cmp xs ys → is_eq o ≡ bytes_eq xs ys
 same_bytes = same_from_slice_cmp nat_cmp is_eq bytes_eq refl (λ _ _. refl) (λ _ _. refl) (λ x y xs ys o h. grind (arith, nat_tests))
 
-pub place_in_entries : {A : Type 0} (name : List ℕ) (entries : List (Vec ℕ A × ℕ)) → lookup (λ (k : Vec ℕ A). is_eq (slice_cmp nat_cmp name k.items)) entries ≡ place_in (places_in entries) name
-place_in_entries name [] = refl
-place_in_entries name (e ∷ es) = rw (place_in_entries name es, same_bytes name e.0.items (slice_cmp nat_cmp name e.0.items) refl) refl
+pub index_among_entries : {A : Type 0} (name : List ℕ) (entries : List (Vec ℕ A × ℕ)) → lookup (λ (k : Vec ℕ A). is_eq (slice_cmp nat_cmp name k.items)) entries ≡ index_among (indexes_in entries) name
+index_among_entries name [] = refl
+index_among_entries name (e ∷ es) = rw (index_among_entries name es, same_bytes name e.0.items (slice_cmp nat_cmp name e.0.items) refl) refl
 
 module _ (v w : ℕ) (old : Option ℕ) where
   one_test : (b : Bool) → cond b (Some v) old ≡ (if b then Some v else cond b (Some w) old)
@@ -32,7 +32,7 @@ module _ {A : Type 0} (key : Vec ℕ A) (v : ℕ) (n : List ℕ) where
   name_cmp x y = slice_cmp nat_cmp x.items y.items
 
   abbrev found : List (Vec ℕ A × ℕ) → Option ℕ
-  found es = place_in (places_in es) n
+  found es = index_among (indexes_in es) n
 
   -- the value at its key, and elsewhere what was there
   pub found_inserted : (es : List (Vec ℕ A × ℕ)) → found (insert_entry name_cmp es key v) ≡ (if bytes_eq n key.items then Some v else found es)

@@ -1,6 +1,6 @@
 -- Constructors of a type and functions are no lines of built-in types.
 use Rattle.std.proofs.Common.{◌≡◌, ℕ, ◌<◌, Bool, true, false, not, ◌&&◌, List, length, Option, None, refl, ap, sym, ◌∙◌, true≢false, arith, if◌then◌else◌}
-use Rattle.tl_names.specs.Places.{types_of}
+use Rattle.tl_names.specs.Indexes.{types_of}
 use Rattle.tl_names.specs.Writing.{is_constructor, own_type, result_head}
 use Rattle.tl_schema.specs.CheckedPrograms.{IsSchema}
 use Rattle.tl_schema.specs.Formed.{IsFunction, IsMember, IsOwn}

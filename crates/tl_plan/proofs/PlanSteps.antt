@@ -110,8 +110,8 @@ module _ (S : Declared) (roots : List Shape) (Ts : List Shape) (ns : List ℕ) (
             subst (λ (us : List Shape). NamesAmong S us U) (sym starts) (all_among_more (names_of S U) (types_at Ts ns) more p.1),
           )
       shown_at more starts names k U j here (last count is) =
-          let place : k ≡ i = count ∙ so_far.count in
-          let same : type_at Ts n ≡ U = some_is (type_at Ts n) U (sym (get_within (types_at Ts ns) more i (type_at Ts n) type_here) ∙ ap (λ (us : List Shape). slice_get us i) (sym starts) ∙ ap (slice_get (types_at Us ms)) (sym place) ∙ here) in
+          let index : k ≡ i = count ∙ so_far.count in
+          let same : type_at Ts n ≡ U = some_is (type_at Ts n) U (sym (get_within (types_at Ts ns) more i (type_at Ts n) type_here) ∙ ap (λ (us : List Shape). slice_get us i) (sym starts) ∙ ap (slice_get (types_at Us ms)) (sym index) ∙ here) in
           subst (λ (V : Shape). Shows (instance_of S (types_at Us ms) V) j × NamesAmong S (types_at Us ms) V) same (subst (Shows (instance_of S (types_at Us ms) (type_at Ts n))) (sym is) h.3, names)
 
   pub instance_fails : {A : Type 0} (Us : List Shape) (ms : List ℕ) (e : PlanFault) (P : A → Type 0) → length ns ≤ MAX_INSTANCES → Walks (find_all (types_at Ts ns) (names_of S (type_at Ts n))) Ts Us ms (Err e) P → Plans S roots (Err e)

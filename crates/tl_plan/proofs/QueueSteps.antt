@@ -8,7 +8,7 @@ use Rattle.tl_schema.specs.Types.{Shape}
 use Rattle.tl_plan.specs.Types.{index_of, is_among, is_same, levels}
 use Rattle.tl_plan.specs.Reached.{Named}
 use Rattle.tl_plan.specs.inner.Nodes.{AreBelow, AreDistinct, capped, type_at, types_at}
-use Rattle.tl_plan.specs.inner.Queues.{Adds, IsQueue, KeepsFirst, Meets, found_in, place_of}
+use Rattle.tl_plan.specs.inner.Queues.{Adds, IsQueue, KeepsFirst, Meets, found_in, noted_at}
 use Rattle.tl_plan.specs.inner.Walks.{Walks, add, find}
 use Rattle.tl_plan.specs.declared.fault.PlanFault.{PlanFault}
 use Rattle.tl_plan.specs.declared.fault.PlanFault.TheVariants.{TypeTooDeep, TooManyInstances, Memory}
@@ -171,35 +171,35 @@ module _ (Ts : List Shape) (old new : List ℕ) (n level decl : ℕ) (distinct :
 
 -- ---- the code's queue
 
--- after the first place of a number was noted, and the number came to the end
-pub queue_push : (old new : List ℕ) (before after : List (ℕ × ℕ)) (node place : ℕ) → IsQueue old before → length old < MAX_INSTANCES → place ≡ length old → KeepsFirst before after node place → new ≡ old ++ node ∷ [] → IsQueue new after
-queue_push old new before after node place queue room count kept pushed = subst (λ (ns : List ℕ). IsQueue ns after) (sym pushed) (record {
+-- after the first index of a number was noted, and the number came to the end
+pub queue_push : (old new : List ℕ) (before after : List (ℕ × ℕ)) (node index : ℕ) → IsQueue old before → length old < MAX_INSTANCES → index ≡ length old → KeepsFirst before after node index → new ≡ old ++ node ∷ [] → IsQueue new after
+queue_push old new before after node index queue room count kept pushed = subst (λ (ns : List ℕ). IsQueue ns after) (sym pushed) (record {
   few = let e = length-append old (node ∷ []) in omega (arith, e, room);
-  noted = λ n. kept n ∙ by_option (place_of before node)
-      (λ none. ap (λ o. if n == node && is_none o then Some place else place_of before n) none ∙ both n (n == node) refl none)
-      (λ k there. ap (λ o. if n == node && is_none o then Some place else place_of before n) there ∙ apart n k (n == node) ∙ queue.noted n ∙ noted_old old node k n (sym (queue.noted node) ∙ there));
+  noted = λ n. kept n ∙ by_option (noted_at before node)
+      (λ none. ap (λ o. if n == node && is_none o then Some index else noted_at before n) none ∙ both n (n == node) refl none)
+      (λ k there. ap (λ o. if n == node && is_none o then Some index else noted_at before n) there ∙ apart n k (n == node) ∙ queue.noted n ∙ noted_old old node k n (sym (queue.noted node) ∙ there));
 })
   where
-    both : (n : ℕ) (b : Bool) → (n == node) ≡ b → place_of before node ≡ None → (if b && true then Some place else place_of before n) ≡ found_in (old ++ node ∷ []) n
-    both n b is none = tidy b ∙ ap (λ (c : Bool). if c then Some (length old) else place_of before n) (sym is) ∙ noted_new old node n (place_of before n) (sym (queue.noted node) ∙ none) (queue.noted n)
+    both : (n : ℕ) (b : Bool) → (n == node) ≡ b → noted_at before node ≡ None → (if b && true then Some index else noted_at before n) ≡ found_in (old ++ node ∷ []) n
+    both n b is none = tidy b ∙ ap (λ (c : Bool). if c then Some (length old) else noted_at before n) (sym is) ∙ noted_new old node n (noted_at before n) (sym (queue.noted node) ∙ none) (queue.noted n)
       where
-        tidy : (b : Bool) → (if b && true then Some place else place_of before n) ≡ (if b then Some (length old) else place_of before n)
+        tidy : (b : Bool) → (if b && true then Some index else noted_at before n) ≡ (if b then Some (length old) else noted_at before n)
         tidy true = ap Some count
         tidy false = refl
 
-    apart : (n k : ℕ) (b : Bool) → (if b && false then Some place else place_of before n) ≡ place_of before n
+    apart : (n k : ℕ) (b : Bool) → (if b && false then Some index else noted_at before n) ≡ noted_at before n
     apart n k true = refl
     apart n k false = refl
 
--- a number that had no place has this one
-pub kept_new : (old new : List (ℕ × ℕ)) (node place : ℕ) → place_of old node ≡ None → ((n : ℕ) → place_of new n ≡ cond (is_eq (nat_cmp node n)) (Some place) (place_of old n)) → KeepsFirst old new node place
-kept_new old new node place none updated n =
-    updated n ∙ by (is_eq (nat_cmp node n)) (n == node) (same node n) ∙ sym (ap (λ o. if n == node && is_none o then Some place else place_of old n) none)
+-- a number that had no index has this one
+pub kept_new : (old new : List (ℕ × ℕ)) (node index : ℕ) → noted_at old node ≡ None → ((n : ℕ) → noted_at new n ≡ cond (is_eq (nat_cmp node n)) (Some index) (noted_at old n)) → KeepsFirst old new node index
+kept_new old new node index none updated n =
+    updated n ∙ by (is_eq (nat_cmp node n)) (n == node) (same node n) ∙ sym (ap (λ o. if n == node && is_none o then Some index else noted_at old n) none)
   where
     same : (a b : ℕ) → is_eq (nat_cmp a b) ≡ (b == a)
     same a b = grind (arith, nat_tests)
 
-    by : (a b : Bool) → a ≡ b → cond a (Some place) (place_of old n) ≡ (if b && true then Some place else place_of old n)
+    by : (a b : Bool) → a ≡ b → cond a (Some index) (noted_at old n) ≡ (if b && true then Some index else noted_at old n)
     by true true e = refl
     by true false e = absurd (true≢false e)
     by false true e = absurd (true≢false (sym e))

@@ -8,8 +8,8 @@ use Rattle.std.specs.Map.{lookup}
 use Rattle.std.specs.Ordering.{is_eq, nat_cmp}
 use Rattle.std.specs.Cmp.Lexicographic.{slice_cmp}
 use Rattle.std.specs.BTreeMap.{insert_entry}
-use Rattle.tl_names.specs.NamePlaces.{place_in, places_in}
-use Rattle.tl_plan.proofs.OrderedEntries.{found_inserted, place_in_entries}
+use Rattle.tl_names.specs.NameIndexes.{index_among, indexes_in}
+use Rattle.tl_plan.proofs.OrderedEntries.{found_inserted, index_among_entries}
 use Rattle.tl_schema.specs.Types.{Shape}
 use Rattle.tl_plan.specs.Types.{levels}
 use Rattle.tl_plan.specs.inner.Nodes.{AreBelow, AreDistinct, Grows, HasParts, NodeView, capped, key_of, levels_above, parts_of, type_at, type_by, types_after, types_at}
@@ -28,7 +28,7 @@ no_nodes = record {
 }
 
 -- a type that has a key is the node's that is found by it
-pub found_type : (Ts : List Shape) (ns : List NodeView) (numbers : List (List ℕ × ℕ)) → AreNodes Ts ns numbers → (f : TypeForm) (ks : List ℕ) (k : ℕ) → place_in numbers (key_of f ks) ≡ Some k → slice_get Ts k ≡ Some (type_by f (types_at Ts ks))
+pub found_type : (Ts : List Shape) (ns : List NodeView) (numbers : List (List ℕ × ℕ)) → AreNodes Ts ns numbers → (f : TypeForm) (ks : List ℕ) (k : ℕ) → index_among numbers (key_of f ks) ≡ Some k → slice_get Ts k ≡ Some (type_by f (types_at Ts ks))
 found_type Ts ns numbers are f ks k at =
     let p = are.keys.only (key_of f ks) k at in
     let same = same_key f p.0.form ks p.0.parts p.2 in
@@ -44,7 +44,7 @@ module _ (ns : List NodeView) (numbers : List (List ℕ × ℕ)) (f : TypeForm) 
   abbrev new_node : NodeView
   new_node = record { form = f; parts = ks; levels = levels_above ns ks }
 
-  module _ (are : AreNodes Ts ns numbers) (below : AreBelow (length Ts) ks) (parts : HasParts f ks) (none : place_in numbers (key_of f ks) ≡ None) where
+  module _ (are : AreNodes Ts ns numbers) (below : AreBelow (length Ts) ks) (parts : HasParts f ks) (none : index_among numbers (key_of f ks) ≡ None) where
     as_many : length Ts ≡ length ns
     as_many = let e = count_after ns [] in omega (arith, e)
 
@@ -59,7 +59,7 @@ module _ (ns : List NodeView) (numbers : List (List ℕ × ℕ)) (f : TypeForm) 
         let node = are.each i n.0 n.1 in
         let same : type_by f (types_at Ts ks) ≡ type_by n.0.form (types_at Ts n.0.parts) = some_is _ _ (sym at ∙ node.type) in
         let key = one_key Ts f n.0.form ks n.0.parts are.distinct below (below_more i (length Ts) n.0.parts (omega (arith, within)) node.below) parts node.parts same in
-        none_some i (sym none ∙ ap (place_in numbers) key ∙ are.keys.found i n.0 n.1)
+        none_some i (sym none ∙ ap (index_among numbers) key ∙ are.keys.found i n.0 n.1)
       where
         node_at : (k : ℕ) → k < length ns → (n : NodeView) × (slice_get ns k ≡ Some n)
         node_at k less = there ns k less
@@ -107,21 +107,21 @@ module _ (ns : List NodeView) (numbers : List (List ℕ × ℕ)) (f : TypeForm) 
           levels = levels_are_so ∙ ap (λ (Vs : List Shape). capped (levels (type_by f Vs))) (sym same);
         }
 
-    module _ (after : List (List ℕ × ℕ)) (inserted : (key : List ℕ) → place_in after key ≡ (if bytes_eq key (key_of f ks) then Some (length ns) else place_in numbers key)) where
+    module _ (after : List (List ℕ × ℕ)) (inserted : (key : List ℕ) → index_among after key ≡ (if bytes_eq key (key_of f ks) then Some (length ns) else index_among numbers key)) where
       new_keys : AreKeys (ns ++ new_node ∷ []) after
       new_keys = record { found = found; only = only }
         where
-          found : (k : ℕ) (n : NodeView) → slice_get (ns ++ new_node ∷ []) k ≡ Some n → place_in after (key_of n.form n.parts) ≡ Some k
+          found : (k : ℕ) (n : NodeView) → slice_get (ns ++ new_node ∷ []) k ≡ Some n → index_among after (key_of n.form n.parts) ≡ Some k
           found k n at = inserted (key_of n.form n.parts) ∙ by (get_pushed ns new_node k n at)
             where
-              by : Pushed ns new_node k n → (if bytes_eq (key_of n.form n.parts) (key_of f ks) then Some (length ns) else place_in numbers (key_of n.form n.parts)) ≡ Some k
-              by (earlier here) = by_test (bytes_eq (key_of n.form n.parts) (key_of f ks)) (λ is. absurd (none_some k (sym none ∙ ap (place_in numbers) (sym ((bytes_eq-Decides (key_of n.form n.parts) (key_of f ks)).0 is)) ∙ are.keys.found k n here))) (λ other. ap (λ b. if b then Some (length ns) else place_in numbers (key_of n.form n.parts)) other ∙ are.keys.found k n here)
-              by (last count is) = ap (λ b. if b then Some (length ns) else place_in numbers (key_of n.form n.parts)) ((bytes_eq-Decides (key_of n.form n.parts) (key_of f ks)).1 (ap (λ (m : NodeView). key_of m.form m.parts) is)) ∙ ap Some (sym count)
+              by : Pushed ns new_node k n → (if bytes_eq (key_of n.form n.parts) (key_of f ks) then Some (length ns) else index_among numbers (key_of n.form n.parts)) ≡ Some k
+              by (earlier here) = by_test (bytes_eq (key_of n.form n.parts) (key_of f ks)) (λ is. absurd (none_some k (sym none ∙ ap (index_among numbers) (sym ((bytes_eq-Decides (key_of n.form n.parts) (key_of f ks)).0 is)) ∙ are.keys.found k n here))) (λ other. ap (λ b. if b then Some (length ns) else index_among numbers (key_of n.form n.parts)) other ∙ are.keys.found k n here)
+              by (last count is) = ap (λ b. if b then Some (length ns) else index_among numbers (key_of n.form n.parts)) ((bytes_eq-Decides (key_of n.form n.parts) (key_of f ks)).1 (ap (λ (m : NodeView). key_of m.form m.parts) is)) ∙ ap Some (sym count)
 
-          only : (key : List ℕ) (k : ℕ) → place_in after key ≡ Some k → (n : NodeView) × (slice_get (ns ++ new_node ∷ []) k ≡ Some n) × (key ≡ key_of n.form n.parts)
+          only : (key : List ℕ) (k : ℕ) → index_among after key ≡ Some k → (n : NodeView) × (slice_get (ns ++ new_node ∷ []) k ≡ Some n) × (key ≡ key_of n.form n.parts)
           only key k at = by (bytes_eq key (key_of f ks)) refl (sym (inserted key) ∙ at)
             where
-              by : (b : Bool) → bytes_eq key (key_of f ks) ≡ b → (if b then Some (length ns) else place_in numbers key) ≡ Some k → (n : NodeView) × (slice_get (ns ++ new_node ∷ []) k ≡ Some n) × (key ≡ key_of n.form n.parts)
+              by : (b : Bool) → bytes_eq key (key_of f ks) ≡ b → (if b then Some (length ns) else index_among numbers key) ≡ Some k → (n : NodeView) × (slice_get (ns ++ new_node ∷ []) k ≡ Some n) × (key ≡ key_of n.form n.parts)
               by true is e = (new_node, ap (slice_get (ns ++ new_node ∷ [])) (sym (some_is (length ns) k e)) ∙ get_last ns new_node, (bytes_eq-Decides key (key_of f ks)).0 is)
               by false is e = let p = are.keys.only key k e in (p.0, get_within ns (new_node ∷ []) k p.0 p.1, p.2)
 
@@ -163,8 +163,8 @@ read_node nodes entries Ts is are k within n at =
 -- ---- a node comes to the end
 
 -- the key is found, or not, as the map tells
-pub told_place : {A : Type 0} (entries : List (Vec ℕ A × ℕ)) (read key : List ℕ) (got : Option ℕ) → read ≡ key → got ≡ lookup (λ (k : Vec ℕ A). is_eq (slice_cmp nat_cmp read k.items)) entries → place_in (places_in entries) key ≡ got
-told_place entries read key got same told = ap (place_in (places_in entries)) (sym same) ∙ sym (told ∙ place_in_entries read entries)
+pub told_index : {A : Type 0} (entries : List (Vec ℕ A × ℕ)) (read key : List ℕ) (got : Option ℕ) → read ≡ key → got ≡ lookup (λ (k : Vec ℕ A). is_eq (slice_cmp nat_cmp read k.items)) entries → index_among (indexes_in entries) key ≡ got
+told_index entries read key got same told = ap (index_among (indexes_in entries)) (sym same) ∙ sym (told ∙ index_among_entries read entries)
 
 pub record TablePushed {A : Type 0} (new : List Node) (after : List (Vec ℕ A × ℕ)) (Ts : List Shape) (node : Node) (number : ℕ) : Type 0 where
   pub table : IsTable new after
@@ -177,15 +177,15 @@ module _ {A : Type 0} (nodes new : List Node) (entries after : List (Vec ℕ A �
       ap (map node_view) pushed ∙ map-append node_view nodes (node ∷ [])
       ∙ ap (λ (l : ℕ). map node_view nodes ++ record { form = node.form; parts = node.parts.items; levels = l } ∷ []) levels_is
 
-  pub table_push : (Ts : List Shape) → types_of_nodes nodes ≡ Ts → IsTable nodes entries → AreBelow (length Ts) node.parts.items → HasParts node.form node.parts.items → node.levels ≡ levels_above (map node_view nodes) node.parts.items → key.items ≡ key_of node.form node.parts.items → place_in (places_in entries) (key_of node.form node.parts.items) ≡ None → number ≡ length nodes → after ≡ insert_entry (λ x y. slice_cmp nat_cmp x.items y.items) entries key number → new ≡ nodes ++ node ∷ [] → TablePushed new after Ts node number
+  pub table_push : (Ts : List Shape) → types_of_nodes nodes ≡ Ts → IsTable nodes entries → AreBelow (length Ts) node.parts.items → HasParts node.form node.parts.items → node.levels ≡ levels_above (map node_view nodes) node.parts.items → key.items ≡ key_of node.form node.parts.items → index_among (indexes_in entries) (key_of node.form node.parts.items) ≡ None → number ≡ length nodes → after ≡ insert_entry (λ x y. slice_cmp nat_cmp x.items y.items) entries key number → new ≡ nodes ++ node ∷ [] → TablePushed new after Ts node number
   table_push Ts is are below parts levels_is keyed none count inserted pushed =
       subst (λ (Us : List Shape). TablePushed new after Us node number) is (record {
-        table = subst (λ (ms : List NodeView). AreNodes (types_after [] ms) ms (places_in after)) (sym (as_new levels_is pushed)) (nodes_push (map node_view nodes) (places_in entries) node.form node.parts.items are here parts none (places_in after) placed);
-        grows = subst (λ (ms : List NodeView). Grows (types_of_nodes nodes) (types_after [] ms)) (sym (as_new levels_is pushed)) (subst (Grows (types_of_nodes nodes)) (sym (push_after (map node_view nodes) (new_node (map node_view nodes) [] node.form node.parts.items) [])) (grows_by (map node_view nodes) (places_in entries) node.form node.parts.items are here parts none));
+        table = subst (λ (ms : List NodeView). AreNodes (types_after [] ms) ms (indexes_in after)) (sym (as_new levels_is pushed)) (nodes_push (map node_view nodes) (indexes_in entries) node.form node.parts.items are here parts none (indexes_in after) placed);
+        grows = subst (λ (ms : List NodeView). Grows (types_of_nodes nodes) (types_after [] ms)) (sym (as_new levels_is pushed)) (subst (Grows (types_of_nodes nodes)) (sym (push_after (map node_view nodes) (new_node (map node_view nodes) [] node.form node.parts.items) [])) (grows_by (map node_view nodes) (indexes_in entries) node.form node.parts.items are here parts none));
         type =
             ap (λ (ms : List NodeView). slice_get (types_after [] ms) number) (as_new levels_is pushed)
             ∙ ap (λ (Us : List Shape). slice_get Us number) (push_after (map node_view nodes) (new_node (map node_view nodes) [] node.form node.parts.items) [])
-            ∙ ap (slice_get (types_of_nodes nodes ++ type_by node.form (types_at (types_of_nodes nodes) node.parts.items) ∷ [])) last_place
+            ∙ ap (slice_get (types_of_nodes nodes ++ type_by node.form (types_at (types_of_nodes nodes) node.parts.items) ∷ [])) last_index
             ∙ get_last (types_of_nodes nodes) (type_by node.form (types_at (types_of_nodes nodes) node.parts.items));
       })
     where
@@ -195,11 +195,11 @@ module _ {A : Type 0} (nodes new : List Node) (entries after : List (Vec ℕ A �
       many : number ≡ length (map node_view nodes)
       many = count ∙ sym (length-map nodes node_view)
 
-      last_place : number ≡ length (types_of_nodes nodes)
-      last_place = let a = count_after (map node_view nodes) [] in let b = many in omega (arith, a, b)
+      last_index : number ≡ length (types_of_nodes nodes)
+      last_index = let a = count_after (map node_view nodes) [] in let b = many in omega (arith, a, b)
 
-      placed : (k : List ℕ) → place_in (places_in after) k ≡ (if bytes_eq k (key_of node.form node.parts.items) then Some (length (map node_view nodes)) else place_in (places_in entries) k)
+      placed : (k : List ℕ) → index_among (indexes_in after) k ≡ (if bytes_eq k (key_of node.form node.parts.items) then Some (length (map node_view nodes)) else index_among (indexes_in entries) k)
       placed k =
-          ap (λ (es : List (Vec ℕ A × ℕ)). place_in (places_in es) k) inserted ∙ found_inserted key number k entries
-          ∙ ap (λ (w : List ℕ). if bytes_eq k w then Some number else place_in (places_in entries) k) keyed
-          ∙ ap (λ (m : ℕ). if bytes_eq k (key_of node.form node.parts.items) then Some m else place_in (places_in entries) k) many
+          ap (λ (es : List (Vec ℕ A × ℕ)). index_among (indexes_in es) k) inserted ∙ found_inserted key number k entries
+          ∙ ap (λ (w : List ℕ). if bytes_eq k w then Some number else index_among (indexes_in entries) k) keyed
+          ∙ ap (λ (m : ℕ). if bytes_eq k (key_of node.form node.parts.items) then Some m else index_among (indexes_in entries) k) many

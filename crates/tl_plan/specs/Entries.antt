@@ -1,6 +1,6 @@
 -- The declarations of a type, and their fields. This project's own.
 use Rattle.std.specs.Prelude.{ℕ, suc, List, [], ◌∷◌, length, Bool, ◌==◌, nat_lt, if◌then◌else◌, Option, Some, None, slice_get}
-use Rattle.tl_names.specs.Places.{types_of}
+use Rattle.tl_names.specs.Indexes.{types_of}
 use Rattle.tl_schema.specs.Types.{Shape, call, boxed, bare}
 use Rattle.tl_schema.specs.Schemas.{Slot, Declaration, Declared}
 

@@ -10,7 +10,7 @@ use std::marker::Model;
 /// The numbers of the types that are reached, and at which index each stands first.
 pub struct Queue {
     nodes: Vec<u32>,
-    places: BTreeMap<u32, u32>,
+    indexes: BTreeMap<u32, u32>,
 }
 
 // By hand, so that each exit of an owner has one call to prove.
@@ -18,7 +18,7 @@ impl Drop for Queue {
     fn drop(self) {
         let Queue {
             nodes: _,
-            places: _,
+            indexes: _,
         } = self;
     }
 }
@@ -31,7 +31,7 @@ impl Model for Queue {
 
     ghost view = { λ q. q.nodes.items };
 
-    ghost invariant = { λ q. IsQueue q.nodes.items q.places.entries };
+    ghost invariant = { λ q. IsQueue q.nodes.items q.indexes.entries };
 }
 
 impl Queue {
@@ -40,7 +40,7 @@ impl Queue {
     {
         Queue {
             nodes: Vec::new(alloc),
-            places: BTreeMap::new(alloc),
+            indexes: BTreeMap::new(alloc),
         }
     }
 
@@ -64,8 +64,8 @@ impl Queue {
     pub fn meet(&mut self, node: u32, levels: u32, decl: u32) -> Result<u32, PlanFault>
         ensures { Meets self.old self.new node levels decl result }
     {
-        if let Some(place) = self.places.get(&node).copied() {
-            return Ok(place);
+        if let Some(index) = self.indexes.get(&node).copied() {
+            return Ok(index);
         }
         self.add(node, levels, decl)
     }
@@ -77,24 +77,24 @@ impl Queue {
         if levels > MAX_LEVELS {
             return Err(PlanFault::TypeTooDeep { decl });
         }
-        let place = self.nodes.len() as u32;
-        if place >= MAX_INSTANCES {
+        let index = self.nodes.len() as u32;
+        if index >= MAX_INSTANCES {
             return Err(PlanFault::TooManyInstances);
         }
         self.nodes.reserve(1)?;
-        keep_first(&mut self.places, node, place)?;
+        keep_first(&mut self.indexes, node, index)?;
         self.nodes.push_reserved(node);
-        Ok(place)
+        Ok(index)
     }
 }
 
 // Notes where a type stands, unless it stands somewhere already.
-fn keep_first(places: &mut BTreeMap<u32, u32>, node: u32, place: u32) -> Result<(), AllocError>
-    ensures kept { OnOk result (KeepsFirst places.old.entries places.new.entries node place) }
-    ensures unchanged { OnErr result (places.new.entries ≡ places.old.entries) }
+fn keep_first(indexes: &mut BTreeMap<u32, u32>, node: u32, index: u32) -> Result<(), AllocError>
+    ensures kept { OnOk result (KeepsFirst indexes.old.entries indexes.new.entries node index) }
+    ensures unchanged { OnErr result (indexes.new.entries ≡ indexes.old.entries) }
 {
-    if places.get(&node).is_none() {
-        places.insert(node, place)?;
+    if indexes.get(&node).is_none() {
+        indexes.insert(node, index)?;
     }
     Ok(())
 }

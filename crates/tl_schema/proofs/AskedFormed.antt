@@ -7,7 +7,7 @@ use Rattle.tl_schema.specs.UnknownVariable.{NamesVariable}
 use Rattle.tl_schema.specs.Seen.{shape}
 use Rattle.tl_schema.specs.Schemas.{Declared}
 use Rattle.tl_schema.specs.CheckedPrograms.{IsSchema}
-use Rattle.tl_names.specs.Places.{variable_of}
+use Rattle.tl_names.specs.Indexes.{variable_of}
 use Rattle.tl_schema.specs.Meanings.{meaning}
 use Rattle.tl_schema.specs.AskedTypes.{asker, type_causes, PassesTypeBy, NamesType}
 use Rattle.tl_schema.specs.Formed.{IsFormed}

@@ -5,7 +5,7 @@ use Rattle.tl_combinators.proofs.Decided.{decided_as, decided_not, decided_and, 
 use Rattle.tl_program.specs.Program.{KindText, nat, flag, call, of, CondText, DeclText}
 use Rattle.tl_graph.specs.Firsts.{First}
 use Rattle.tl_schema.specs.BadFlag.{IsFlagsBefore, IsBadCondition, HasBadCondition, BadFlag}
-use Rattle.tl_schema.proofs.PlacesDecided.{less_decided, some_decided}
+use Rattle.tl_schema.proofs.IndexesDecided.{less_decided, some_decided}
 use Rattle.tl_schema.proofs.Firsts.{first_that}
 
 nat_decided : (kind : KindText) → Decided (kind ≡ nat)

@@ -7,7 +7,7 @@ use Rattle.tl_program.specs.Program.{DeclText}
 use Rattle.tl_graph.specs.Firsts.{First}
 use Rattle.tl_names.specs.Writing.{is_type_name, is_variable, is_constructor}
 use Rattle.tl_schema.specs.BadResult.{IsGoodResult, HasBadResult, BadResult}
-use Rattle.tl_schema.proofs.PlacesDecided.{bool_decided}
+use Rattle.tl_schema.proofs.IndexesDecided.{bool_decided}
 use Rattle.tl_schema.proofs.TypesDecided.{named_decided, types_decided}
 use Rattle.tl_schema.proofs.Firsts.{first_that}
 

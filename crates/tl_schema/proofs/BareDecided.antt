@@ -11,7 +11,7 @@ use Rattle.tl_names.specs.Writing.{is_constructor, is_type_name, is_built_in, is
 use Rattle.tl_names.specs.Parts.{InFields}
 use Rattle.tl_names.specs.Constructors.{IsOnlyConstructor}
 use Rattle.tl_names.specs.BareReferences.{IsBareOf, by_name, by_type, PointsTo}
-use Rattle.tl_schema.proofs.PlacesDecided.{bool_decided}
+use Rattle.tl_schema.proofs.IndexesDecided.{bool_decided}
 use Rattle.tl_schema.proofs.TypesDecided.{named_decided, percent_decided}
 use Rattle.tl_schema.proofs.WritingDecided.{at_decided, named_at_decided, only_constructor_decided, in_fields_decided}
 use Rattle.tl_schema.proofs.Firsts.{first_of}

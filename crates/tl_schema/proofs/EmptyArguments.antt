@@ -8,7 +8,7 @@ use Rattle.tl_names.specs.Parts.{SomePart, SomeWritten}
 use Rattle.tl_schema.specs.EmptyElement.{AppliesToEmpty, EmptyElement}
 use Rattle.tl_names.specs.inner.BareSteps.{MarksEmpty}
 use Rattle.tl_schema.specs.inner.MarkedSteps.{AppliesToMarked}
-use Rattle.tl_names.proofs.Places.{first_same}
+use Rattle.tl_names.proofs.Indexes.{first_same}
 
 module _ (ds : List DeclText) (marks : List Bool) (empty : MarksEmpty ds marks) (d : DeclText) where
   applies_to_empty : (u : Tree) → AppliesToMarked ds marks d u → AppliesToEmpty ds d u

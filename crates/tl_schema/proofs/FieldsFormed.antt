@@ -17,16 +17,16 @@ use Rattle.tl_schema.specs.declared.fault.CheckCause.TheVariants as cause
 use Rattle.tl_schema.specs.CheckedPrograms.{IsSchema}
 use Rattle.tl_schema.specs.Types as shape
 use Rattle.tl_schema.specs.Schemas.{Slot, Declaration, Declared}
-use Rattle.tl_names.specs.Places.{variable_of}
-use Rattle.tl_schema.specs.Meanings.{kind_shape, field_place, condition_of, slot_of, declaration_of}
+use Rattle.tl_names.specs.Indexes.{variable_of}
+use Rattle.tl_schema.specs.Meanings.{kind_shape, field_index, condition_of, slot_of, declaration_of}
 use Rattle.tl_schema.specs.Formed.{IsFormedOver, IsCondition, IsFormedField}
 use Rattle.tl_schema.specs.FormedLaws.{FieldsAreFormed}
 use Rattle.tl_names.proofs.HeadNames.{type_name}
 use Rattle.tl_schema.proofs.BadFlagFirst.{flags_before_decided}
 use Rattle.tl_schema.proofs.ListParts.{slice_get_after}
 use Rattle.tl_names.proofs.Maps.{slice_get_made}
-use Rattle.tl_names.proofs.TestedPlaces.{first_passes}
-use Rattle.tl_schema.proofs.TypePlaces.{first_that_passes}
+use Rattle.tl_names.proofs.TestedIndexes.{first_passes}
+use Rattle.tl_schema.proofs.TypeIndexes.{first_that_passes}
 use Rattle.tl_schema.proofs.Members.{declaration_at}
 use Rattle.tl_schema.proofs.FormedTypes.{IsFine, type_formed}
 
@@ -68,8 +68,8 @@ module _ (schema : Declared) (good : IsSchema schema) (i : ℕ) (d : DeclText) (
       }))
 
   -- so the field is at the index of its name
-  field_place_is : (k : ℕ) (g : FieldText) (name : List ℕ) → FieldAt d k g → g.name ≡ name → k ≡ field_place d name
-  field_place_is k g name at is =
+  field_index_is : (k : ℕ) (g : FieldText) (name : List ℕ) → FieldAt d k g → g.name ≡ name → k ≡ field_index d name
+  field_index_is k g name at is =
       first_passes (λ (f : FieldText). bytes_eq name f.name) (λ (f : FieldText). name ≡ f.name) (λ (f : FieldText). bytes_eq-Decides name f.name) d.fields k
       (record { x = g; there = at; has = sym is }, λ j below p. apart j k p.x g below p.there at (sym p.has ∙ sym is))
 
@@ -88,7 +88,7 @@ module _ (schema : Declared) (good : IsSchema schema) (i : ℕ) (d : DeclText) (
     condition None good_one = tt
     condition (Some c) good_one =
         let b = flags_before c good_one in
-        let is : b.earlier ≡ field_place d c.flags = field_place_is b.earlier b.f c.flags b.there b.name in
+        let is : b.earlier ≡ field_index d c.flags = field_index_is b.earlier b.f c.flags b.there b.name in
         let before = b.before in (
           omega (arith, is, before),
           bit_below c good_one,

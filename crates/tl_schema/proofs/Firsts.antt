@@ -1,4 +1,4 @@
--- The first place with a property that is decided: there is one or none.
+-- The first index with a property that is decided: there is one or none.
 use Rattle.std.proofs.Common.{◌⊎◌, inl, inr, ℕ, zero, suc, ◌<◌, List, length, slice_get, Option, Some, None, subst, arith}
 use Rattle.std.proofs.lemmas.Bool.{cases_eq}
 use Rattle.std.proofs.lemmas.Option.{slice_get_within}
@@ -8,13 +8,13 @@ use Rattle.tl_combinators.proofs.Decided.{decided_as}
 use Rattle.tl_graph.specs.Firsts.{First}
 use Rattle.tl_names.specs.Writing.{At}
 use Rattle.tl_names.specs.Writing.{DeclarationHas}
-use Rattle.tl_schema.proofs.PlacesDecided.{option_decided}
+use Rattle.tl_schema.proofs.IndexesDecided.{option_decided}
 
--- no place below n has it
+-- no index below n has it
 abbrev NoneBelow : (ℕ → Type 0) → ℕ → Type 0
 NoneBelow P n = (j : ℕ) → j < n → P j → ⊥
 
--- the first place below n that has it
+-- the first index below n that has it
 abbrev FirstBelow : (ℕ → Type 0) → ℕ → Type 0
 FirstBelow P n = (k : ℕ) × (k < n) × P k × NoneBelow P k
 
@@ -35,11 +35,11 @@ module _ (P : ℕ → Type 0) where
   answered n within (inl (k, below, p, none)) = (Some k, (p, none))
   answered n within (inr none) = (None, λ k p. none k (within k p) p)
 
-  -- a decided property that no place from n on has
+  -- a decided property that no index from n on has
   pub first_of : (n : ℕ) → ((k : ℕ) → Decided (P k)) → ((k : ℕ) → P k → k < n) → (o : Option ℕ) × First P o
   first_of n test within = answered n within (first_below test n)
 
--- the first declaration that is such: where P says of a place that its declaration is Q
+-- the first declaration that is such: where P says of an index that its declaration is Q
 module _ (ds : List DeclText) (P : ℕ → Type 0) (Q : ℕ → DeclText → Type 0) (made : (k : ℕ) (d : DeclText) → At ds k d → Q k d → P k) (of : (k : ℕ) → P k → (d : DeclText) × At ds k d × Q k d) where
   pub first_declaration : ((k : ℕ) (d : DeclText) → Decided (Q k d)) → (o : Option ℕ) × First P o
   first_declaration test =

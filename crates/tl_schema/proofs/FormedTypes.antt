@@ -21,14 +21,14 @@ use Rattle.tl_names.specs.BareReferences.{IsBareOf, by_name, by_type}
 use Rattle.tl_schema.specs.Types.{Shape, var, vector, boxed, bare, Shapes, no_shapes, shape}
 use Rattle.tl_schema.specs.Schemas.{Declared}
 use Rattle.tl_schema.specs.CheckedPrograms.{IsSchema}
-use Rattle.tl_names.specs.Places.{head_of, place_of, first_of, variable_of}
+use Rattle.tl_names.specs.Indexes.{head_of, constructor_index, first_of, variable_of}
 use Rattle.tl_schema.specs.Meanings.{item_of, base_shape, declared_shape, known_shape, named_shape, bare_shape, meaning, meanings}
 use Rattle.tl_schema.specs.Formed.{AppliesBare, IsFormedOver, AreArguments, IsEmpty, count_of}
 use Rattle.tl_names.proofs.HeadNames.{type_name}
 use Rattle.tl_schema.proofs.WritingDecided.{constructor_at_decided, named_at_decided}
 use Rattle.tl_schema.proofs.NotBareFirst.{bare_decided}
 use Rattle.tl_schema.proofs.Firsts as firsts
-use Rattle.tl_names.proofs.FirstPlaces.{place_found, first_found}
+use Rattle.tl_names.proofs.FirstIndexes.{index_found, first_found}
 use Rattle.tl_schema.proofs.BuiltInNames.{if_by, base_by, type_not_built_in, shapeless_not_built_in}
 use Rattle.tl_schema.proofs.Members.{applies_type, applies_bare, type_made}
 
@@ -82,12 +82,12 @@ module _ (schema : Declared) (good : IsSchema schema) (d : DeclText) (n : ℕ) w
             let count = applied_to (length c.vars) (has.type j c free own upper first.0.1 (λ i b below there. first.1 i below (b, there))) in
             record { formed = λ are. (applies_type schema good name j c first.0.1 (count_of args) count, are); bare = λ e. absurd e }
 
-        name_by : is_type_name name ≡ false → (o : Option ℕ) → First (λ j. (c : DeclText) × IsConstructorNamed schema.program name j c) o → Stands (named name ts) args (bare (place_of schema.program name) args)
+        name_by : is_type_name name ≡ false → (o : Option ℕ) → First (λ j. (c : DeclText) × IsConstructorNamed schema.program name j c) o → Stands (named name ts) args (bare (constructor_index schema.program name) args)
         name_by lower None none =
             absurd (fine.known (record { no_variable = free; no_built_in = own; unknown = no_constructor lower (λ j c there. none j (c, there)) }))
         name_by lower (Some j) first =
             let c = first.0.0 in
-            let is : j ≡ place_of schema.program name = place_found schema.program name j first in
+            let is : j ≡ constructor_index schema.program name = index_found schema.program name j first in
             let count = applied_to (length c.vars) (has.constructor j c free own lower first.0.1 (λ i b below there. first.1 i below (b, there))) in
             let made = type_made schema good j c first.0.1.there first.0.1.own in
             record {
@@ -100,14 +100,14 @@ module _ (schema : Declared) (good : IsSchema schema) (d : DeclText) (n : ℕ) w
             let first = firsts.first_of (λ j. (c : DeclText) × IsConstructorOf schema.program name j c) (length schema.program) (constructor_at_decided schema.program name) (λ j h. slice_get_within schema.program j h.0 h.1.there) in
             type_by upper first.0 first.1
 
-        name_stands : is_type_name name ≡ false → Stands (named name ts) args (bare (place_of schema.program name) args)
+        name_stands : is_type_name name ≡ false → Stands (named name ts) args (bare (constructor_index schema.program name) args)
         name_stands lower =
             let first = firsts.first_of (λ j. (c : DeclText) × IsConstructorNamed schema.program name j c) (length schema.program) (named_at_decided schema.program name) (λ j h. slice_get_within schema.program j h.0 h.1.there) in
             name_by lower first.0 first.1
 
         declared_stands : Stands (named name ts) args (declared_shape schema.program name args)
         declared_stands =
-            if_by (Stands (named name ts) args) (is_type_name name) (boxed (head_of schema.program name) args) (bare (place_of schema.program name) args) type_stands name_stands
+            if_by (Stands (named name ts) args) (is_type_name name) (boxed (head_of schema.program name) args) (bare (constructor_index schema.program name) args) type_stands name_stands
 
       -- ---- a name that is no variable and no vector
 

@@ -15,7 +15,7 @@ mod Misapplied
 pub mod Calls
 pub mod UnknownVariables
 pub mod Firsts
-pub mod PlacesDecided
+pub mod IndexesDecided
 pub mod TypesDecided
 pub mod WritingDecided
 pub mod SameNameFirst
@@ -38,7 +38,7 @@ mod KnownNumbers
 mod MarkedArguments
 mod MeantEntries
 mod NumberTests
-mod NumberedPlaces
+mod NumberedIndexes
 mod MeantTypes
 mod DeclaredEntries
 mod EmptyArguments
@@ -47,7 +47,7 @@ pub mod OneType
 pub mod OneAnswer
 mod TypeSteps
 pub mod ClosedFormed
-mod TypePlaces
+mod TypeIndexes
 mod BuiltInNames
 pub mod Members
 pub mod FormedTypes

@@ -4,7 +4,7 @@ use Rattle.std.specs.Option.{option_map, unwrap_or}
 use Rattle.std.proofs.lemmas.List.{length-map}
 use Rattle.std.proofs.lemmas.Option.{none-some, same_Some}
 use Rattle.tl_program.specs.Program.{CondText, DeclText, FieldText}
-use Rattle.tl_names.specs.Places.{types_of}
+use Rattle.tl_names.specs.Indexes.{types_of}
 use Rattle.tl_names.specs.Writing.{is_function, own_type}
 use Rattle.tl_names.specs.MeantDecls.{cond_by, head_number}
 use Rattle.tl_names.specs.What.{field_named}
@@ -13,7 +13,7 @@ use Rattle.tl_names.proofs.Maps.{slice_get_made}
 use Rattle.tl_schema.specs.Meanings.{condition_of, declaration_of, head_in, result_shape, slot_of}
 use Rattle.tl_schema.specs.Schemas.{Declaration, Slot}
 use Rattle.tl_schema.specs.Types.{Shape}
-use Rattle.tl_names.proofs.TestedPlaces.{position_unwrapped}
+use Rattle.tl_names.proofs.TestedIndexes.{position_unwrapped}
 
 -- the number of its type, or the number of types
 pub head_unwrapped : (ds : List DeclText) (o : Option (List ℕ)) → unwrap_or (head_number ds o) (length (types_of ds)) ≡ head_in ds o

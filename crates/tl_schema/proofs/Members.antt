@@ -11,9 +11,9 @@ use Rattle.tl_schema.specs.declared.fault.CheckCause.TheVariants as cause
 use Rattle.tl_schema.specs.CheckedPrograms.{IsSchema}
 use Rattle.tl_schema.specs.Schemas.{Declaration, Declared}
 use Rattle.tl_schema.specs.Meanings.{IsEntry, head_in}
-use Rattle.tl_names.specs.Places.{head_of}
+use Rattle.tl_names.specs.Indexes.{head_of}
 use Rattle.tl_schema.specs.Formed.{IsMember, AppliesType, AppliesBare}
-use Rattle.tl_schema.proofs.TypePlaces.{head_known, one_head}
+use Rattle.tl_schema.proofs.TypeIndexes.{head_known, one_head}
 
 -- ---- the type of a constructor
 

@@ -10,7 +10,7 @@ use Rattle.tl_names.specs.Writing.{is_type_name, is_variable}
 use Rattle.tl_names.specs.Parts.{SomeWritten}
 use Rattle.tl_names.specs.Constructors.{IsOnlyConstructor}
 use Rattle.tl_schema.specs.NotBare.{HasBare, vector, single, HasNoBare, NotBare}
-use Rattle.tl_schema.proofs.PlacesDecided.{bool_decided}
+use Rattle.tl_schema.proofs.IndexesDecided.{bool_decided}
 use Rattle.tl_schema.proofs.TypesDecided.{named_decided, this_name_decided}
 use Rattle.tl_schema.proofs.WritingDecided.{only_constructor_decided, writes_decided}
 use Rattle.tl_schema.proofs.Firsts.{first_that}

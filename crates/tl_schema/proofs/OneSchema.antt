@@ -85,7 +85,7 @@ module _ (ds : List DeclText) where
   entry_is : (d : DeclText) → IsEntry ds d (entry d)
   entry_is d = ((some_number_where d.builtin d).1, refl)
 
-  -- the entry at a place is that of the declaration there
+  -- the entry at an index is that of the declaration there
   entry_there : (k : ℕ) (e : Declaration) (o : Option DeclText) → slice_get ds k ≡ o → slice_get Entries k ≡ Some e → (d : DeclText) × At ds k d × (e ≡ entry d)
   entry_there k e None at there = absurd (none-some e (sym (slice_get-map entry ds k ∙ ap (option_map entry) at) ∙ there))
   entry_there k e (Some d) at there = (d, at, sym (same_Some (entry d) e (sym (slice_get-map entry ds k ∙ ap (option_map entry) at) ∙ there)))

@@ -9,7 +9,7 @@ use Rattle.tl_graph.proofs.GraphPaths.{along}
 use Rattle.tl_names.specs.BareReferences.{IsBareOf, by_name, by_type, PointsTo}
 use Rattle.tl_schema.specs.BareCycle.{BareCycle}
 use Rattle.tl_names.specs.inner.BareSteps.{AreReferences}
-use Rattle.tl_names.proofs.Places.{first_same}
+use Rattle.tl_names.proofs.Indexes.{first_same}
 
 -- a constructor that is referred to stands in the list
 bare_within : (ds : List DeclText) (d : DeclText) (t : Tree) (j : ℕ) → IsBareOf ds d t j → j < length ds

@@ -9,7 +9,7 @@ use Rattle.tl_graph.specs.Firsts.{First}
 use Rattle.tl_names.specs.Writing.{At, is_variable}
 use Rattle.tl_names.specs.NameLists.{IsRepeat}
 use Rattle.tl_schema.specs.SameName.{SameName, declared, part, vector, part_names}
-use Rattle.tl_schema.proofs.PlacesDecided.{bool_decided, less_decided, names_repeat_decided}
+use Rattle.tl_schema.proofs.IndexesDecided.{bool_decided, less_decided, names_repeat_decided}
 use Rattle.tl_schema.proofs.TypesDecided.{this_name_decided}
 use Rattle.tl_schema.proofs.WritingDecided.{somewhere_decided}
 use Rattle.tl_schema.proofs.Firsts.{first_declaration}

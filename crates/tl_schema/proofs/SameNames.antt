@@ -9,7 +9,7 @@ use Rattle.tl_program.specs.Program.{DeclText, FieldText, field_text}
 use Rattle.tl_program.specs.declared.program.Field.{Field}
 use Rattle.tl_names.specs.Writing.{At}
 use Rattle.tl_names.specs.NameLists.{IsRepeat}
-use Rattle.tl_names.specs.NamePlaces.{Notes, place_in}
+use Rattle.tl_names.specs.NameIndexes.{Notes, index_among}
 use Rattle.tl_schema.specs.SameName.{SameName, declared, part, vector, part_names}
 use Rattle.tl_schema.specs.inner.SameNameSteps.{is_noted, names_among, AddsName, MakesVector, NotesName}
 use Rattle.tl_schema.specs.declared.same_name.Known.{Known}
@@ -40,7 +40,7 @@ knows_none ds known no_functions no_constructors false name = (λ h. absurd (tru
 pub notes_name : (old new : List (List ℕ × ℕ)) (name : List ℕ) (at : ℕ) → Notes old new name at → NotesName old new name
 notes_name old new name at notes n = ap is_some (notes n) ∙ by (bytes_eq n name)
   where
-    by : (b : Bool) → is_some (if b then Some (unwrap_or (place_in old n) at) else place_in old n) ≡ (b || is_noted old n)
+    by : (b : Bool) → is_some (if b then Some (unwrap_or (index_among old n) at) else index_among old n) ≡ (b || is_noted old n)
     by true = refl
     by false = refl
 

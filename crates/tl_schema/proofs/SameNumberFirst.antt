@@ -10,7 +10,7 @@ use Rattle.tl_names.specs.Writing.{At}
 use Rattle.tl_schema.specs.Schemas.{packed_number, vector_number}
 use Rattle.tl_schema.specs.Numbers.{IsWrittenOrCrc, IsNumberOf}
 use Rattle.tl_schema.specs.SameNumber.{SameNumber, earlier, packed, vector}
-use Rattle.tl_schema.proofs.PlacesDecided.{bool_decided, less_decided}
+use Rattle.tl_schema.proofs.IndexesDecided.{bool_decided, less_decided}
 use Rattle.tl_schema.proofs.WritingDecided.{somewhere_decided}
 use Rattle.tl_schema.proofs.Firsts.{first_declaration}
 

@@ -12,7 +12,7 @@ use Rattle.tl_graph.proofs.GrowingMarks.{AreSound, Grows, marks_decide}
 use Rattle.tl_names.specs.Writing.{At, is_constructor}
 use Rattle.tl_names.specs.Parts.{FieldAt}
 use Rattle.tl_names.specs.BareFields.{HoldsBare, HasBareFields, TakesNone, takes_none}
-use Rattle.tl_schema.proofs.PlacesDecided.{bool_decided, some_decided}
+use Rattle.tl_schema.proofs.IndexesDecided.{bool_decided, some_decided}
 use Rattle.tl_schema.proofs.WritingDecided.{at_decided}
 use Rattle.tl_schema.proofs.BareDecided.{bare_of_decided}
 

@@ -8,7 +8,7 @@ use Rattle.tl_graph.specs.Firsts.{First}
 use Rattle.tl_names.specs.Writing.{is_type_name, is_built_in, is_variable, IsConstructorOf, IsConstructorNamed}
 use Rattle.tl_names.specs.Parts.{SomeWritten}
 use Rattle.tl_schema.specs.UnknownType.{IsUnknown, no_type, no_constructor, BeginsUnknown, UnknownType}
-use Rattle.tl_schema.proofs.PlacesDecided.{bool_decided}
+use Rattle.tl_schema.proofs.IndexesDecided.{bool_decided}
 use Rattle.tl_schema.proofs.WritingDecided.{constructor_decided, named_constructor_decided, writes_decided}
 use Rattle.tl_schema.proofs.Firsts.{first_that}
 

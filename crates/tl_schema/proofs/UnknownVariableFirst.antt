@@ -10,7 +10,7 @@ use Rattle.tl_graph.specs.Firsts.{First}
 use Rattle.tl_names.specs.Writing.{is_variable}
 use Rattle.tl_names.specs.Parts.{SomeInFields}
 use Rattle.tl_schema.specs.UnknownVariable.{NamesVariable, MisusesVariable, UnknownVariable, uncalled, no_variable, in_field, calls}
-use Rattle.tl_schema.proofs.PlacesDecided.{bool_decided, some_decided}
+use Rattle.tl_schema.proofs.IndexesDecided.{bool_decided, some_decided}
 use Rattle.tl_schema.proofs.WritingDecided.{held_decided}
 use Rattle.tl_schema.proofs.Firsts.{first_that}
 

@@ -9,7 +9,7 @@ use Rattle.tl_program.specs.Program.{KindText, nat, flag, call, of, DeclText}
 use Rattle.tl_names.specs.Writing.{At, is_constructor, result_head, IsConstructorOf, IsConstructorNamed}
 use Rattle.tl_names.specs.Parts.{IsPart, HeldBy, InFields, Writes}
 use Rattle.tl_names.specs.Constructors.{IsOnlyConstructor}
-use Rattle.tl_schema.proofs.PlacesDecided.{bool_decided, option_decided, some_decided}
+use Rattle.tl_schema.proofs.IndexesDecided.{bool_decided, option_decided, some_decided}
 use Rattle.tl_schema.proofs.TypesDecided.{part_decided}
 
 -- ---- what a declaration writes
@@ -51,7 +51,7 @@ head_decided None name = inr (λ e. none-some name e)
 head_decided (Some other) name = decided_as (λ e. ap Some e) (λ e. same_Some other name e) (text_decided other name)
 
 module _ (ds : List DeclText) where
-  -- the declaration at the place is such
+  -- the declaration at the index is such
   pub at_decided : (k : ℕ) (P : DeclText → Type 0) → ((d : DeclText) → Decided (P d)) → Decided ((d : DeclText) × At ds k d × P d)
   at_decided k P test = option_decided (slice_get ds k) P test
 
@@ -66,7 +66,7 @@ module _ (ds : List DeclText) where
         decided_as (λ h. (h.0, h.1, record { there = h.2; own = h.3.0; head = h.3.1.0 }, h.3.1.1)) (λ h. (h.0, h.1, h.2.there, (h.2.own, (h.2.head, h.3))))
         (somewhere_decided (λ j c. (is_constructor c ≡ true) × ((result_head c ≡ Some name) × P j c)) (λ j c. decided_and (bool_decided (is_constructor c) true) (decided_and (head_decided (result_head c) name) (test j c))))
 
-    -- the type has a constructor: at the place, at some place
+    -- the type has a constructor: at the index, at some index
     pub constructor_at_decided : (j : ℕ) → Decided ((c : DeclText) × IsConstructorOf ds name j c)
     constructor_at_decided j =
         decided_as (λ h. (h.0, record { there = h.1; own = h.2.0; head = h.2.1 })) (λ h. (h.0, h.1.there, (h.1.own, h.1.head)))
@@ -75,7 +75,7 @@ module _ (ds : List DeclText) where
     pub constructor_decided : Decided ((j : ℕ) × (c : DeclText) × IsConstructorOf ds name j c)
     constructor_decided = decided_as (λ h. (h.0, h.1, h.2)) (λ h. (h.0, h.1, h.2, tt)) (constructor_that_decided (λ j c. Unit {0}) (λ j c. inl tt))
 
-    -- a constructor has the name: at the place, at some place
+    -- a constructor has the name: at the index, at some index
     pub named_at_decided : (j : ℕ) → Decided ((c : DeclText) × IsConstructorNamed ds name j c)
     named_at_decided j =
         decided_as (λ h. (h.0, record { there = h.1; own = h.2.0; named = h.2.1 })) (λ h. (h.0, h.1.there, (h.1.own, h.1.named)))
@@ -90,11 +90,11 @@ module _ (ds : List DeclText) where
     elsewhere_decided : (j : ℕ) → Decided ((i : ℕ) × (b : DeclText) × IsConstructorOf ds name i b × (i ≢ j))
     elsewhere_decided j = constructor_that_decided (λ i b. i ≢ j) (λ i b. decided_not (cases_eq i j))
 
-    same_place : (i j : ℕ) (b : DeclText) → IsConstructorOf ds name i b → (((n : ℕ) × (c : DeclText) × IsConstructorOf ds name n c × (n ≢ j)) → ⊥) → i ≡ j
-    same_place i j b there none = elim (cases_eq i j) [ inl e ↦ e | inr other ↦ absurd (none (i, b, there, other)) ]
+    same_position : (i j : ℕ) (b : DeclText) → IsConstructorOf ds name i b → (((n : ℕ) × (c : DeclText) × IsConstructorOf ds name n c × (n ≢ j)) → ⊥) → i ≡ j
+    same_position i j b there none = elim (cases_eq i j) [ inl e ↦ e | inr other ↦ absurd (none (i, b, there, other)) ]
 
     -- the type has exactly one constructor
     pub only_constructor_decided : Decided ((j : ℕ) × (c : DeclText) × IsOnlyConstructor ds name j c)
     only_constructor_decided =
-        decided_as (λ h. (h.0, h.1, record { one = h.2; only = λ i b there. same_place i h.0 b there h.3 })) (λ h. (h.0, h.1, h.2.one, λ other. other.3 (h.2.only other.0 other.1 other.2)))
+        decided_as (λ h. (h.0, h.1, record { one = h.2; only = λ i b there. same_position i h.0 b there h.3 })) (λ h. (h.0, h.1, h.2.one, λ other. other.3 (h.2.only other.0 other.1 other.2)))
         (constructor_that_decided (λ j c. ((i : ℕ) × (b : DeclText) × IsConstructorOf ds name i b × (i ≢ j)) → ⊥) (λ j c. decided_not (elsewhere_decided j)))

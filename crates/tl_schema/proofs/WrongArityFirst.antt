@@ -9,7 +9,7 @@ use Rattle.tl_graph.specs.Firsts.{First}
 use Rattle.tl_names.specs.Writing.{own_type, IsConstructorOf}
 use Rattle.tl_schema.specs.WrongArity.{count_of, Misapplies, ConstructsUneven, IsWrong, WrongArity}
 use Rattle.tl_names.specs.Constructors.{IsUneven}
-use Rattle.tl_schema.proofs.PlacesDecided.{option_decided}
+use Rattle.tl_schema.proofs.IndexesDecided.{option_decided}
 use Rattle.tl_schema.proofs.WritingDecided.{constructor_that_decided, writes_decided}
 use Rattle.tl_schema.proofs.OneArity.{other_arity_decided}
 use Rattle.tl_schema.proofs.Firsts.{first_that}

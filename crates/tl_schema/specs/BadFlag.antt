@@ -5,7 +5,7 @@ use Rattle.tl_program.specs.Program.{nat, CondText, FieldText, DeclText}
 use Rattle.tl_names.specs.Parts.{FieldAt}
 use Rattle.tl_names.specs.Writing.{DeclarationHas}
 
--- a field before the place i is `#`, and has this name
+-- a field before the index i is `#`, and has this name
 pub record IsFlagsBefore (d : DeclText) (i : ℕ) (flags : List ℕ) : Type 0 where
   pub earlier : ℕ
   pub f : FieldText

@@ -47,7 +47,7 @@ RefusesProgram k cause (Err fault) = (fault ≡ check.Refused k cause) ⊎ (faul
 abbrev pub HasName : List Declaration → List ℕ → Bool → ℕ → Type 0
 HasName es name function i = (e : Declaration) × (slice_get es i ≡ Some e) × (e.name ≡ name) × (e.function ≡ function)
 
--- the place of the function of this name, or of the constructor
+-- the index of the function of this name, or of the constructor
 abbrev pub Finds : List Declaration → List ℕ → Bool → Option ℕ → Type 0
 Finds es name function = First (HasName es name function)
 

@@ -6,7 +6,7 @@ use Rattle.tl_program.specs.Program.{DeclText}
 use Rattle.tl_schema.specs.Types.{Shape, nat, flag, var, vector, boxed, bare, Shapes, no_shapes, shape}
 use Rattle.tl_schema.specs.Schemas.{Slot, Declaration, Declared}
 use Rattle.tl_names.specs.Writing.{At}
-use Rattle.tl_names.specs.Places.{types_of}
+use Rattle.tl_names.specs.Indexes.{types_of}
 use Rattle.tl_names.specs.BareFields.{TakesNone}
 
 -- declaration i is d, a constructor of the type with the number h

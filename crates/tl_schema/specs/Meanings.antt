@@ -1,8 +1,8 @@
 -- What the declarations of a program mean: their types, their fields and their entries.
 -- From "TL language" and "Formal description of TL" (core.telegram.org/mtproto/TL, /mtproto/TL-formal). That types and declarations go by
--- their places is this project's own.
+-- their indexes is this project's own.
 -- In a program that passes the checks each name has a declaration, and each application the right number of arguments. What these
--- definitions say where that is not so is of no use: a place past the end, or a call in place of a type.
+-- definitions say where that is not so is of no use: an index past the end, or a call in place of a type.
 use Rattle.std.specs.Prelude.{◌≡◌, ℕ, ◌<◌, ◌^◌, List, length, map, Bool, true, false, bytes_eq, codes, Option, Some, None, unwrap_or, if◌then◌else◌}
 use Rattle.std.specs.Option.{option_map}
 use Rattle.std.specs.List.{position_or_len}
@@ -11,7 +11,7 @@ use Rattle.tl_program.specs.Program.{KindText, nat, flag, call, of, CondText, Fi
 use Rattle.tl_program.specs.BuiltIns.{built_in}
 use Rattle.tl_program.specs.declared.built_in.BuiltIn.{BuiltIn}
 use Rattle.tl_names.specs.Writing.{At, is_function, is_type_name, is_variable, own_type}
-use Rattle.tl_names.specs.Places.{types_of, head_of, place_of, first_of, variable_of}
+use Rattle.tl_names.specs.Indexes.{types_of, head_of, constructor_index, first_of, variable_of}
 use Rattle.tl_schema.specs.Numbers.{IsNumberOf}
 use Rattle.tl_schema.specs.Types.{Shape, Shapes, no_shapes, shape}
 use Rattle.tl_schema.specs.Types as shape
@@ -42,7 +42,7 @@ base_shape name = built_in_shape (built_in name)
 
 -- what is declared under the name, boxed or bare
 abbrev pub declared_shape : List DeclText → List ℕ → Shapes → Shape
-declared_shape ds name args = if is_type_name name then shape.boxed (head_of ds name) args else shape.bare (place_of ds name) args
+declared_shape ds name args = if is_type_name name then shape.boxed (head_of ds name) args else shape.bare (constructor_index ds name) args
 
 -- a type that the language has, or what is declared
 abbrev pub known_shape : List DeclText → List ℕ → Shapes → Option Shape → Shape
@@ -84,20 +84,20 @@ kind_shape ds d flag = shape.flag
 kind_shape ds d (call var) = shape.call
 kind_shape ds d (of t) = meaning ds d t
 
--- the place of the variable that a call's result is
+-- the index of the variable that a call's result is
 abbrev pub kind_variable : DeclText → KindText → Option ℕ
 kind_variable d nat = None
 kind_variable d flag = None
 kind_variable d (call var) = Some (variable_of d var)
 kind_variable d (of t) = None
 
--- the place of the field with this name
-abbrev pub field_place : DeclText → List ℕ → ℕ
-field_place d name = position_or_len (λ f. bytes_eq name f.name) d.fields
+-- the index of the field with this name
+abbrev pub field_index : DeclText → List ℕ → ℕ
+field_index d name = position_or_len (λ f. bytes_eq name f.name) d.fields
 
--- the place of the `#` field, and the bit
+-- the index of the `#` field, and the bit
 abbrev pub condition_of : DeclText → CondText → ℕ × ℕ
-condition_of d c = (field_place d c.flags, c.bit)
+condition_of d c = (field_index d c.flags, c.bit)
 
 abbrev pub slot_of : List DeclText → DeclText → FieldText → Slot
 slot_of ds d f = record { name = f.name; cond = option_map (condition_of d) f.cond; var = kind_variable d f.kind; of = kind_shape ds d f.kind }

@@ -4,7 +4,7 @@ use Rattle.tl_numbers.specs.declared.numbers.TheConstants.{BOXED_VECTOR, PACKED}
 use Rattle.tl_program.specs.Program.{DeclText}
 use Rattle.tl_schema.specs.Types.{Shape}
 
--- a field: its name, the place of the `#` field and the bit that it stands by, the place of its variable if it is a call, and its type
+-- a field: its name, the index of the `#` field and the bit that it stands by, the index of its variable if it is a call, and its type
 pub record Slot : Type 0 where
   pub name : List ℕ
   pub cond : Option (ℕ × ℕ)

@@ -17,13 +17,13 @@ mutual
     flag : Shape
     -- a call of any function
     call : Shape
-    -- the variable at this place of its declaration
+    -- the variable at this index of its declaration
     var : ℕ → Shape
     -- a vector with its number, or without, of such elements
     vector : Bool → Shape → Shape
     -- one of the constructors of the type with this number, with its own number
     boxed : ℕ → Shapes → Shape
-    -- the constructor at this place, without its number
+    -- the constructor at this index, without its number
     bare : ℕ → Shapes → Shape
 
   pub data Shapes : Type 0 where

@@ -4,7 +4,7 @@ ghost use Rattle.tl_schema.specs.Seen.{declaration};
 ghost use Rattle.tl_names.specs.inner.BareSteps.{MarksEmpty};
 ghost use Rattle.tl_schema.specs.CheckedPrograms.{Finds, FindsNumber, IsSchema};
 ghost use Rattle.tl_names.specs.BareFields.{TakesNone};
-ghost use Rattle.tl_names.specs.Places.{types_of};
+ghost use Rattle.tl_names.specs.Indexes.{types_of};
 ghost use Rattle.tl_schema.specs.inner.SchemaParts.{IsSound};
 
 use indexmap::IndexMap;

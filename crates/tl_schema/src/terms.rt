@@ -107,7 +107,7 @@ fn declared_term(scope: &Scope, name: &[u8], args: Vec<TypeRef>) -> TypeRef
         }
     } else {
         TypeRef::Bare {
-            entry: scope.place(name),
+            entry: scope.constructor_index(name),
             args,
         }
     }

@@ -129,7 +129,7 @@ module _ (ds : List Declaration) (args : List Shape) where
         let here = get_member-put_other (string_bytes f.key) k d ms (key_differs fs i (string_bytes f.key) k none (keyed_so v (slice_get fs i) is)) in
         (subst (λ (o : Option Data). FieldIs ds args (keyed_slot f) o (view w)) (sym here) are.0, fields_put fs vs i v (rest_apart (string_bytes f.key) (keys fs) apart) is are.1)
 
-    -- the field at a place, as the code finds it
+    -- the field at an index, as the code finds it
     pub found_at : (fs : List KeyedField) (i : ℕ) (f : KeyedField) (v : Value) → f ≡ slice_index_or fs i f → IsSomeAnd (slice_get fs i) (λ g. string_bytes g.key ≡ k) → read ds (closed args (keyed_slot (slice_index_or fs i f)).of) d ≡ Ok (view v) → IsSomeAnd (slice_get fs i) (Found v)
     found_at fs i f v at keyed reads = by (slice_get fs i) refl keyed
       where

@@ -17,18 +17,18 @@ forms_push [] (g ∷ fs) d f before next = absurd before
 forms_push (e ∷ ds) [] d f before next = absurd before
 forms_push (e ∷ ds) (g ∷ fs) d f before next = (before.0, forms_push ds fs d f before.1 next)
 
-abbrev AtOnePlace : Option Declaration → Option FormView → Type 0
-AtOnePlace None None = ⊤
-AtOnePlace None (Some f) = ⊥
-AtOnePlace (Some d) None = ⊥
-AtOnePlace (Some d) (Some f) = IsForm d f
+abbrev AtOneIndex : Option Declaration → Option FormView → Type 0
+AtOneIndex None None = ⊤
+AtOneIndex None (Some f) = ⊥
+AtOneIndex (Some d) None = ⊥
+AtOneIndex (Some d) (Some f) = IsForm d f
 
-at_place : (ds : List Declaration) (fs : List FormView) → AreForms ds fs → (i : ℕ) → AtOnePlace (slice_get ds i) (slice_get fs i)
-at_place [] [] are i = tt
-at_place [] (f ∷ fs) are i = absurd are
-at_place (d ∷ ds) [] are i = absurd are
-at_place (d ∷ ds) (f ∷ fs) are zero = are.0
-at_place (d ∷ ds) (f ∷ fs) are (suc i) = at_place ds fs are.1 i
+at_index : (ds : List Declaration) (fs : List FormView) → AreForms ds fs → (i : ℕ) → AtOneIndex (slice_get ds i) (slice_get fs i)
+at_index [] [] are i = tt
+at_index [] (f ∷ fs) are i = absurd are
+at_index (d ∷ ds) [] are i = absurd are
+at_index (d ∷ ds) (f ∷ fs) are zero = are.0
+at_index (d ∷ ds) (f ∷ fs) are (suc i) = at_index ds fs are.1 i
 
 same_part : (n : List ℕ) (args : List Shape) (at to : Reads) → ((i : ℕ) (T : Shape) → at i T ≡ to i T) → (p : PartView) → part_of n args at p ≡ part_of n args to p
 same_part n args at to same form.name = refl
@@ -39,7 +39,7 @@ same_members : (n : List ℕ) (args : List Shape) (at to : Reads) → ((i : ℕ)
 same_members n args at to same [] = refl
 same_members n args at to same (k ∷ ks) = ap₂ (with_part k.0) (same_part n args at to same k.1) (same_members n args at to same ks)
 
-record_as_shown : (all : List Declaration) (d : Option Declaration) (f : Option FormView) → AtOnePlace d f → (args : List Shape) (at : Reads) (vs : ValueViews)
+record_as_shown : (all : List Declaration) (d : Option Declaration) (f : Option FormView) → AtOneIndex d f → (args : List Shape) (at : Reads) (vs : ValueViews)
     → ((i : ℕ) (T : Shape) → at i T ≡ shown_at all vs i T) → members_of (form_in f) args at ≡ with_fields all args (named (name_in d)) (fields_in d) vs
 record_as_shown all None None is args at no_values same = refl
 record_as_shown all None None is args at (value v vs) same = refl
@@ -59,15 +59,15 @@ mutual
   as_shown ds fs are T absent = refl
   as_shown ds fs are T (list vs) = ap array (each_as_shown ds fs are (item_of T) vs)
   as_shown ds fs are T (node i vs) =
-      ap object (record_as_shown ds (slice_get ds i) (slice_get fs i) (at_place ds fs are i) (arguments_of T) (read_at fs vs) vs (place_as_shown ds fs are vs))
+      ap object (record_as_shown ds (slice_get ds i) (slice_get fs i) (at_index ds fs are i) (arguments_of T) (read_at fs vs) vs (index_as_shown ds fs are vs))
   as_shown ds fs are T (call i vs) =
-      ap object (record_as_shown ds (slice_get ds i) (slice_get fs i) (at_place ds fs are i) [] (read_at fs vs) vs (place_as_shown ds fs are vs))
+      ap object (record_as_shown ds (slice_get ds i) (slice_get fs i) (at_index ds fs are i) [] (read_at fs vs) vs (index_as_shown ds fs are vs))
 
   each_as_shown : (ds : List Declaration) (fs : List FormView) → AreForms ds fs → (T : Shape) (vs : ValueViews) → written_each fs T vs ≡ shown_each ds T vs
   each_as_shown ds fs are T no_values = refl
   each_as_shown ds fs are T (value v vs) = ap₂ item (as_shown ds fs are T v) (each_as_shown ds fs are T vs)
 
-  place_as_shown : (ds : List Declaration) (fs : List FormView) → AreForms ds fs → (vs : ValueViews) (i : ℕ) (T : Shape) → read_at fs vs i T ≡ shown_at ds vs i T
-  place_as_shown ds fs are no_values i T = refl
-  place_as_shown ds fs are (value v vs) zero T = ap (unless_missing (is_absent v)) (as_shown ds fs are T v)
-  place_as_shown ds fs are (value v vs) (suc i) T = place_as_shown ds fs are vs i T
+  index_as_shown : (ds : List Declaration) (fs : List FormView) → AreForms ds fs → (vs : ValueViews) (i : ℕ) (T : Shape) → read_at fs vs i T ≡ shown_at ds vs i T
+  index_as_shown ds fs are no_values i T = refl
+  index_as_shown ds fs are (value v vs) zero T = ap (unless_missing (is_absent v)) (as_shown ds fs are T v)
+  index_as_shown ds fs are (value v vs) (suc i) T = index_as_shown ds fs are vs i T

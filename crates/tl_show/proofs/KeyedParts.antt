@@ -1,4 +1,4 @@
--- Declarations with their keys, place by place.
+-- Declarations with their keys, index by index.
 use Rattle.std.proofs.Common.{◌≡◌, ℕ, zero, suc, ◌<◌, ◌≤◌, List, [], ◌∷◌, ◌++◌, length, get_or, Option, Some, None, refl, ap, sym, ◌∙◌, subst, arith, true, string_bytes, map}
 use Rattle.std.specs.Prelude.{slice_get}
 use Rattle.tl_schema.specs.Schemas.{Declaration, Declared}
@@ -14,7 +14,7 @@ keyed_push [] (f ∷ es) d e before next = absurd before
 keyed_push (c ∷ ds) [] d e before next = absurd before
 keyed_push (c ∷ ds) (f ∷ es) d e before next = (before.0, keyed_push ds es d e before.1 next)
 
--- the entry at a place is that of the declaration there
+-- the entry at an index is that of the declaration there
 pub keyed_there : (ds : List Declaration) (es : List KeyedEntry) (i : ℕ) (e : KeyedEntry) → AreKeyed ds es → i < length es → e ≡ get_or es i e
     → (d : Declaration) × (slice_get ds i ≡ Some d) × IsKeyed d e
 keyed_there [] [] i e are within at = absurd (omega arith)
@@ -34,7 +34,7 @@ keyed_past (d ∷ ds) (e ∷ es) (suc i) are past = keyed_past ds es i are.1 (om
 pub seen : (s t : Declared) (es xs : List KeyedEntry) → AreKeyed s.decls es → s ≡ t → xs ≡ es → AreKeyed t.decls xs
 seen s t es xs are same list = subst (λ (d : Declared). AreKeyed d.decls xs) same (subst (AreKeyed s.decls) (sym list) are)
 
--- what stands at a place
+-- what stands at an index
 module _ (ds : List Declaration) (es : List KeyedEntry) (i : ℕ) (are : AreKeyed ds es) where
   pub text_there : (e : KeyedEntry) → i < length es → e ≡ get_or es i e → string_bytes e.name ≡ name_text (name_in (slice_get ds i))
   text_there e within at = let t = keyed_there ds es i e are within at in t.2.text ∙ ap (λ o. name_text (name_in o)) (sym t.1)

@@ -5,7 +5,7 @@ pub mod Scopes
 pub mod Declarations
 pub mod Elements
 pub mod FieldCounts
-pub mod FieldsByPlace
+pub mod FieldsByIndex
 pub mod FieldsPut
 pub mod FormedRecords
 pub mod FormSteps

@@ -239,7 +239,7 @@ fn fields_in(
     let mut values = none_there(alloc, applied.fields.len())?;
     let mut next = 0usize;
     'fields: while let Some(key) = tokens.next_key()? {
-        let Some(i) = place_of(key, applied.fields, next) else {
+        let Some(i) = field_at(key, applied.fields, next) else {
             return Err(GivenUp);
         };
         let field = &applied.fields[i].field;
@@ -261,22 +261,22 @@ fn none_there(alloc: Global, count: usize) -> Result<Vec<Value>, AllocError>
     Ok(values)
 }
 
-// The place of the field with a key. It is looked for at a place and after that, and then before.
+// The index of the field with a key. It is looked for at an index and after that, and then before.
 #[inline(always)]
-fn place_of(key: &str, fields: &[KeyedField], first: usize) -> Option<usize>
+fn field_at(key: &str, fields: &[KeyedField], first: usize) -> Option<usize>
     ensures { IfSome result (λ i. IsSomeAnd (slice_get fields.now i) (λ f. string_bytes f.key ≡ key.now)) }
 {
     if first < fields.len() && key == fields[first].key.as_str() {
         return Some(first);
     }
-    match place_from(key, fields, first) {
+    match field_from(key, fields, first) {
         Some(i) => Some(i),
-        None => place_from(key, fields, 0),
+        None => field_from(key, fields, 0),
     }
 }
 
-// The first place of the field with a key, from a place on.
-fn place_from(key: &str, fields: &[KeyedField], first: usize) -> Option<usize>
+// The first index of the field with a key, from an index on.
+fn field_from(key: &str, fields: &[KeyedField], first: usize) -> Option<usize>
     ensures { IfSome result (λ i. IsSomeAnd (slice_get fields.now i) (λ f. string_bytes f.key ≡ key.now)) }
 {
     for i in first..fields.len() {

@@ -4,7 +4,7 @@ use Rattle.std.specs.Prelude.{slice_get}
 use Rattle.std.proofs.lemmas.Bool.{eqb-true, eq-eqb}
 use Rattle.tl_numbers.specs.declared.numbers.TheConstants.{PACKED}
 use Rattle.tl_schema.specs.Schemas.{Declaration, Declared}
-use Rattle.tl_names.specs.Places.{types_of}
+use Rattle.tl_names.specs.Indexes.{types_of}
 use Rattle.tl_schema.specs.Formed.{IsMember, IsFunction, IsOwn}
 use Rattle.tl_types.specs.Refusal.{IsMemberNumber, IsFunctionNumber}
 use Rattle.tl_types.specs.inner.Reading.{first_from, is_member, is_function, fields_in}

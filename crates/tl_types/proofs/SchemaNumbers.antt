@@ -6,7 +6,7 @@ use Rattle.tl_program.specs.Program.{DeclText}
 use Rattle.tl_names.specs.Writing.{At, is_constructor, result_head, own_type}
 use Rattle.tl_schema.specs.Numbers.{IsNumbered}
 use Rattle.tl_schema.specs.Schemas.{Declaration, Declared, vector_number, packed_number}
-use Rattle.tl_names.specs.Places.{types_of}
+use Rattle.tl_names.specs.Indexes.{types_of}
 use Rattle.tl_schema.specs.Meanings.{head_in, IsNumberWhere, IsEntry, line_number}
 use Rattle.tl_schema.specs.SameNumber.{SameNumber, earlier, packed}
 use Rattle.tl_schema.specs.CheckedPrograms.{IsSchema}

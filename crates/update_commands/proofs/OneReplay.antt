@@ -2,7 +2,7 @@
 use Rattle.std.proofs.Common.{◌≡◌, ℕ, List, Some, Bool, true, false, cond, refl, sym, ap, ap₂, ◌∙◌, subst}
 use Rattle.tl_numbers.specs.Bytes.{AreBytes}
 use Rattle.box_events.specs.declared.steps.Step.{Step}
-use Rattle.wire_profile.specs.Places.{ProfileView}
+use Rattle.wire_profile.specs.Indexes.{ProfileView}
 use Rattle.wire_profile.specs.Profiles.{IsProfile}
 use Rattle.wire_profile.specs.declared.wire_fault.WireFault.{WireFault}
 use Rattle.outside.specs.Answer.{Answer}

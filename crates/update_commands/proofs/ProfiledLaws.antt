@@ -2,7 +2,7 @@
 use Rattle.std.proofs.Common.{ℕ, List}
 use Rattle.tl_base.specs.declared.host.Out.TheVariants as outs
 use Rattle.tl_schema.specs.Schemas.{Declared}
-use Rattle.wire_profile.specs.Places.{ProfileView}
+use Rattle.wire_profile.specs.Indexes.{ProfileView}
 use Rattle.outside.specs.Answer.{refused}
 use Rattle.outside.specs.declared.status.Status.{Status}
 use Rattle.fault_lines.specs.Profiled.{form_line}

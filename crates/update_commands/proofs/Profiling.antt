@@ -4,7 +4,7 @@ use Rattle.tl_base.specs.declared.host.Out.{Out}
 use Rattle.tl_schema.specs.CheckedPrograms.{IsSchema}
 use Rattle.tl_schema.specs.Schemas.{Declared}
 use Rattle.wire_profile.specs.Faults.{FaultView, IsAnswer}
-use Rattle.wire_profile.specs.Places.{ProfileView}
+use Rattle.wire_profile.specs.Indexes.{ProfileView}
 use Rattle.wire_profile.specs.Profiles.{IsProfile}
 use Rattle.outside.specs.Answer.{refused}
 use Rattle.outside.specs.Jobs.{of_fault}

@@ -7,7 +7,7 @@ use Rattle.tl_base.specs.Contents.{Files}
 use Rattle.tl_base.specs.Outside.{HasFile}
 use Rattle.tl_base.specs.declared.host.Slot.TheVariants.{Schema, Input}
 use Rattle.tl_schema.specs.Schemas.{Declared}
-use Rattle.wire_profile.specs.Places.{ProfileView}
+use Rattle.wire_profile.specs.Indexes.{ProfileView}
 use Rattle.wire_profile.specs.Profiles.{IsProfile}
 use Rattle.outside.specs.Answer.{Answer, refused}
 use Rattle.outside.specs.declared.status.Status.{Status}

@@ -2,7 +2,7 @@
 use Rattle.std.proofs.Common.{◌≡◌, codes, ℕ, List, [], ◌++◌, Option, Some, None, refl, sym, subst, inl, inr}
 use Rattle.tl_base.specs.Contents.{Files}
 use Rattle.tl_base.specs.declared.host.Slot.TheVariants.{Schema, Input}
-use Rattle.wire_profile.specs.Places.{ProfileView}
+use Rattle.wire_profile.specs.Indexes.{ProfileView}
 use Rattle.outside.specs.Answer.{Answer}
 use Rattle.outside.specs.declared.status.Status.{Status}
 use Rattle.outside.specs.declared.status.Status.TheVariants.{ReadFault}

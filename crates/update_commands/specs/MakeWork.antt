@@ -1,6 +1,6 @@
 -- What `make` does. This project's own.
 use Rattle.std.specs.Prelude.{ℕ, List}
-use Rattle.wire_profile.specs.Places.{ProfileView}
+use Rattle.wire_profile.specs.Indexes.{ProfileView}
 use Rattle.outside.specs.declared.status.Status.{Status}
 use Rattle.outside.specs.Printing.{Answers}
 use Rattle.outside.specs.Steps.{Step}

@@ -2,7 +2,7 @@
 use Rattle.std.specs.Prelude.{List, Ok, Err}
 use Rattle.tl_schema.specs.Schemas.{Declared}
 use Rattle.wire_profile.specs.Faults.{FaultView, IsAnswer}
-use Rattle.wire_profile.specs.Places.{ProfileView}
+use Rattle.wire_profile.specs.Indexes.{ProfileView}
 use Rattle.outside.specs.Answer.{refused}
 use Rattle.outside.specs.declared.status.Status.{Status}
 use Rattle.fault_lines.specs.Profiled.{form_line}

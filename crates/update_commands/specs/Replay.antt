@@ -3,7 +3,7 @@ use Rattle.std.specs.Prelude.{◌≡◌, ℕ, List, Option, Some, codes}
 use Rattle.tl_base.specs.Contents.{Files, HoldBytes}
 use Rattle.tl_base.specs.Outside.{HasFile, IsFile}
 use Rattle.box_events.specs.declared.steps.Step.{Step}
-use Rattle.wire_profile.specs.Places.{ProfileView}
+use Rattle.wire_profile.specs.Indexes.{ProfileView}
 use Rattle.outside.specs.Answer.{Answer, done, refused_after, placed_line}
 use Rattle.outside.specs.Jobs.{Job, unlinked_job}
 use Rattle.outside.specs.Kept.{KeepsUnread}

@@ -1,7 +1,7 @@
 -- What `replay` does. This project's own.
 use Rattle.std.specs.Prelude.{ℕ, List, Option, Some, None}
 use Rattle.tl_base.specs.declared.host.Slot.TheVariants.{Input}
-use Rattle.wire_profile.specs.Places.{ProfileView}
+use Rattle.wire_profile.specs.Indexes.{ProfileView}
 use Rattle.outside.specs.declared.status.Status.{Status}
 use Rattle.outside.specs.Pieces.{ReadsFile}
 use Rattle.outside.specs.Printing.{Answers, Unread}

@@ -9,7 +9,7 @@ use Rattle.tl_numbers.specs.Bytes.{AreBytes}
 use Rattle.tl_types.proofs.Numbers.{bytes_after}
 use Rattle.box_events.specs.declared.steps.Step.{Step}
 use Rattle.box_events.specs.declared.replies.Frame.TheVariants as frame
-use Rattle.wire_profile.specs.Places.{ProfileView}
+use Rattle.wire_profile.specs.Indexes.{ProfileView}
 use Rattle.wire_profile.specs.Profiles.{IsProfile}
 use Rattle.wire_values.specs.Calls.{call_in, call_tree}
 use Rattle.wire_values.specs.Carried.{FitsCall, FitsStep}

@@ -10,7 +10,7 @@ use Rattle.tl_types.specs.declared.cause.Cause.TheVariants.{Truncated}
 use Rattle.box_events.specs.declared.steps.Step.{Step}
 use Rattle.wire_profile.specs.declared.wire_fault.WireFault.{WireFault}
 use Rattle.wire_profile.specs.declared.wire_fault.WireFault.TheVariants as wire
-use Rattle.wire_profile.specs.Places.{ProfileView}
+use Rattle.wire_profile.specs.Indexes.{ProfileView}
 use Rattle.box_wire.specs.StepReading.{ReadsStep, StepGiven, StepRefused}
 use Rattle.box_wire.specs.declared.fault.StepReadFault.{StepReadFault}
 use Rattle.box_wire.specs.declared.fault.StepReadFault.TheVariants as reading

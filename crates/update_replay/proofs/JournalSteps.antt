@@ -10,7 +10,7 @@ use Rattle.tl_types.specs.declared.value.TheConstants.{MAX_LEVELS}
 use Rattle.tl_types.proofs.Exactly.{exactly_one}
 use Rattle.tl_decode.proofs.TakesFour.{each_item_takes_four}
 use Rattle.box_events.specs.declared.steps.Step.{Step}
-use Rattle.wire_profile.specs.Places.{ProfileView, cell_shape}
+use Rattle.wire_profile.specs.Indexes.{ProfileView, cell_shape}
 use Rattle.wire_profile.specs.Profiles.{IsProfile}
 use Rattle.wire_profile.specs.SpelledForms.{owned}
 use Rattle.wire_profile.proofs.OwnValues.{own_of}

@@ -5,7 +5,7 @@ use Rattle.box_client.specs.States.{ClientState}
 use Rattle.box_events.specs.declared.steps.Step.{Step}
 use Rattle.box_server.specs.Servers.{ServerState, new_server}
 use Rattle.box_server.proofs.Carrying.{changed_overlays}
-use Rattle.wire_profile.specs.Places.{ProfileView}
+use Rattle.wire_profile.specs.Indexes.{ProfileView}
 use Rattle.wire_profile.specs.Profiles.{IsProfile}
 use Rattle.wire_values.specs.Steps.{step_in, step_tree}
 use Rattle.box_wire.specs.Framing.{Framed}

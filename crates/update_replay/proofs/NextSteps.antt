@@ -7,7 +7,7 @@ use Rattle.tl_base.specs.declared.source.TextFault.{TextFault}
 use Rattle.tl_base.specs.declared.source.TextFault.TheVariants as text
 use Rattle.box_events.specs.declared.steps.Step.{Step}
 use Rattle.wire_profile.specs.declared.wire_fault.WireFault.{WireFault}
-use Rattle.wire_profile.specs.Places.{ProfileView}
+use Rattle.wire_profile.specs.Indexes.{ProfileView}
 use Rattle.box_wire.specs.StepReading.{IsDated, ReadsStep, StepGiven, StepRefused}
 use Rattle.box_wire.specs.declared.fault.StepReadFault.TheVariants as wrong
 use Rattle.update_replay.specs.Endings.{is_cut_short}

@@ -11,7 +11,7 @@ use Rattle.box_server.specs.Refusing.{post_cause}
 use Rattle.box_server.specs.declared.fault.PostFault.{PostFault}
 use Rattle.box_client.specs.States.{ClientState}
 use Rattle.box_client.specs.Asking.{restarted, wakes}
-use Rattle.wire_profile.specs.Places.{ProfileView}
+use Rattle.wire_profile.specs.Indexes.{ProfileView}
 use Rattle.box_world.specs.Worlds.{Packet, World, client_steps, happens, heard, post_by, watches}
 use Rattle.update_replay.specs.StepLines.{AreSpelled}
 use Rattle.update_world.specs.declared.sent.SentPacket.{SentPacket}

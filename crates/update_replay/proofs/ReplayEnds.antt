@@ -5,7 +5,7 @@ use Rattle.tl_numbers.specs.Bytes.{AreBytes}
 use Rattle.tl_base.specs.Taking.{TakesEnd}
 use Rattle.tl_base.specs.Using.{SinkState, Wrote, WritesOnly}
 use Rattle.tl_base.specs.Writing.{AppendsPrefix}
-use Rattle.wire_profile.specs.Places.{ProfileView}
+use Rattle.wire_profile.specs.Indexes.{ProfileView}
 use Rattle.wire_profile.specs.Profiles.{IsProfile}
 use Rattle.update_world.specs.Shown.{Shown}
 use Rattle.update_replay.specs.ReplayParts.{ComesOn, of_line}

@@ -2,7 +2,7 @@
 use Rattle.std.proofs.Common.{◌≡◌, ℕ, List, [], ◌++◌, append_assoc, append-nil, length, Bool, false, sym, ap, ◌∙◌}
 use Rattle.tl_numbers.specs.Bytes.{AreBytes}
 use Rattle.box_events.specs.declared.steps.Step.{Step}
-use Rattle.wire_profile.specs.Places.{ProfileView}
+use Rattle.wire_profile.specs.Indexes.{ProfileView}
 use Rattle.wire_profile.specs.Profiles.{IsProfile}
 use Rattle.box_world.specs.NumberWorlds.{n_run}
 use Rattle.update_replay.specs.Closings.{closing_lines}

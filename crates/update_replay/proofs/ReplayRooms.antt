@@ -6,7 +6,7 @@ use Rattle.tl_numbers.specs.Bytes.{AreBytes}
 use Rattle.tl_base.specs.Taking.{TakesEnd}
 use Rattle.tl_base.specs.Using.{SinkState, Wrote, WritesOnly}
 use Rattle.box_events.specs.declared.steps.Step.{Step}
-use Rattle.wire_profile.specs.Places.{ProfileView}
+use Rattle.wire_profile.specs.Indexes.{ProfileView}
 use Rattle.wire_profile.specs.Profiles.{IsProfile}
 use Rattle.box_world.specs.NumberWorlds.{n_run}
 use Rattle.update_replay.specs.StepLines.{StepLines}

@@ -12,7 +12,7 @@ use Rattle.box_events.specs.declared.steps.Step.{Step}
 use Rattle.box_events.specs.declared.steps.Step.TheVariants as step
 use Rattle.box_server.specs.Refusing.{post_cause}
 use Rattle.box_server.specs.declared.fault.PostFault.{PostFault}
-use Rattle.wire_profile.specs.Places.{ProfileView}
+use Rattle.wire_profile.specs.Indexes.{ProfileView}
 use Rattle.box_world.specs.NumberWorlds.{n_run}
 use Rattle.box_world.specs.Possible.{client_of, no_client, no_packet, wrong_end, pool_full}
 use Rattle.box_world.specs.Worlds.{World, run}

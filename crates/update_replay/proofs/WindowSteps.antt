@@ -8,7 +8,7 @@ use Rattle.tl_base.proofs.Limiting.{limited_back}
 use Rattle.tl_base.proofs.Uses.{used_then, used_as}
 use Rattle.box_events.specs.declared.steps.Step.{Step}
 use Rattle.wire_profile.specs.declared.wire_fault.WireFault.{WireFault}
-use Rattle.wire_profile.specs.Places.{ProfileView}
+use Rattle.wire_profile.specs.Indexes.{ProfileView}
 use Rattle.wire_profile.specs.Profiles.{IsProfile}
 use Rattle.box_world.specs.NumberWorlds.{n_run}
 use Rattle.update_replay.specs.StepLines.{StepLines}

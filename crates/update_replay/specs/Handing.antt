@@ -1,7 +1,7 @@
 -- A replay that is made step by step, over a journal in memory: how far it has come, and what it hands out. This project's own.
 use Rattle.std.specs.Prelude.{◌≡◌, ◌⊎◌, ℕ, ◌<◌, ◌≤◌, List, [], ◌∷◌, ◌++◌, length, Bool, true, false, Option, Some, None, Result, Ok, Err}
 use Rattle.box_events.specs.declared.steps.Step.{Step}
-use Rattle.wire_profile.specs.Places.{ProfileView}
+use Rattle.wire_profile.specs.Indexes.{ProfileView}
 use Rattle.box_wire.specs.StepReading.{StepRefused}
 use Rattle.box_wire.specs.declared.fault.StepReadFault.{StepReadFault}
 use Rattle.box_wire.specs.declared.fault.StepReadFault.TheVariants as reading

@@ -2,7 +2,7 @@
 use Rattle.std.specs.Prelude.{◌≡◌, ◌↔◌, ℕ, ◌<◌, List, ◌++◌, length}
 use Rattle.tl_numbers.specs.Bytes.{AreBytes}
 use Rattle.box_events.specs.declared.steps.Step.{Step}
-use Rattle.wire_profile.specs.Places.{ProfileView}
+use Rattle.wire_profile.specs.Indexes.{ProfileView}
 use Rattle.wire_profile.specs.Profiles.{IsProfile}
 use Rattle.update_replay.specs.Endings.{Ending}
 use Rattle.update_replay.specs.Replays.{Replayed, Stopped, goes_on, seen_of}

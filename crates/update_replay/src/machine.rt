@@ -2,7 +2,7 @@
 ghost use Rattle.std.specs.Prelude.{◌≡◌, ◌+◌, ◌<◌, ◌≤◌, ℕ, List, [], IfOk, IfSome, OnOk, Err, drop, length};
 ghost use Rattle.box_events.specs.declared.steps.Step as steps;
 ghost use Rattle.box_wire.specs.StepReading.{IsDated};
-ghost use Rattle.wire_profile.specs.Places.{ProfileView};
+ghost use Rattle.wire_profile.specs.Indexes.{ProfileView};
 ghost use Rattle.update_replay.specs.Endings.{answer_of, of_refusal};
 ghost use Rattle.update_replay.specs.Handing.{FindsStep, HandsOut, HasMade, IsGoing, MakesLines};
 ghost use Rattle.update_replay.specs.ReplayParts.{HasRun};

@@ -17,7 +17,7 @@ use Rattle.box_client.specs.declared.fault.ClientFault.{ClientFault}
 use Rattle.box_client.specs.declared.fault.ClientFault.TheVariants as client
 use Rattle.box_client.proofs.GivenOnce.{pushed_next, replied_next}
 use Rattle.box_world.specs.Worlds.{after_reply}
-use Rattle.wire_profile.specs.Places.{ProfileView}
+use Rattle.wire_profile.specs.Indexes.{ProfileView}
 use Rattle.box_wire.specs.Framing.{WireRefused}
 use Rattle.box_wire.specs.Kinds.{frames}
 use Rattle.update_sessions.specs.declared.fault.SessionFault.{SessionFault}

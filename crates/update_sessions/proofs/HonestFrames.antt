@@ -18,7 +18,7 @@ use Rattle.box_world.specs.Streams.{Past, past_of, begun, heard_frame, told_repl
 use Rattle.box_world.specs.Recovering.{AnswersEach, most_frames}
 use Rattle.box_world.proofs.Streams as streams
 use Rattle.box_world.proofs.Histories as histories
-use Rattle.wire_profile.specs.Places.{ProfileView}
+use Rattle.wire_profile.specs.Indexes.{ProfileView}
 use Rattle.update_sessions.specs.declared.fault.SessionFault.{SessionFault}
 use Rattle.update_sessions.specs.declared.fault.SessionFault.TheVariants.{Packet, Wire, Client, TooManyFrames, LinkFault, Memory}
 use Rattle.update_sessions.specs.Exchanges.{MaySend, after_all}

@@ -15,7 +15,7 @@ use Rattle.box_server.specs.declared.fault.PostFault.{PostFault}
 use Rattle.box_server.specs.declared.entry.Entry.{Entry}
 use Rattle.box_server.specs.Rebuilding.{Rebuilds}
 use Rattle.box_server.proofs.Rebuilt.{date_aside, one_more, one_server}
-use Rattle.wire_profile.specs.Places.{ProfileView}
+use Rattle.wire_profile.specs.Indexes.{ProfileView}
 use Rattle.update_sessions.specs.declared.fault.SessionFault.{SessionFault}
 use Rattle.update_sessions.specs.declared.fault.SessionFault.TheVariants.{Packet, Wire, Client, TooManyFrames, LinkFault, Memory}
 use Rattle.update_sessions.specs.Exchanges.{after_all}

@@ -9,7 +9,7 @@ use Rattle.box_wire.specs.Answers.{HasCause}
 use Rattle.tl_base.specs.declared.fault.Fault.{Fault}
 use Rattle.tl_base.specs.declared.fault.Fault.TheVariants as fault
 use Rattle.box_events.specs.declared.replies.Frame.{Frame}
-use Rattle.wire_profile.specs.Places.{ProfileView}
+use Rattle.wire_profile.specs.Indexes.{ProfileView}
 use Rattle.wire_profile.specs.Profiles.{IsProfile}
 use Rattle.box_world.specs.Fitting.{IsHearable}
 use Rattle.box_world.proofs.ReadFrames.{frames_taken}

@@ -11,7 +11,7 @@ use Rattle.box_events.specs.declared.requests.Numbered.{Numbered}
 use Rattle.box_client.specs.States.{ClientState}
 use Rattle.box_client.specs.Asking.{ticks}
 use Rattle.box_client.proofs.GivenOnce.{next_past}
-use Rattle.wire_profile.specs.Places.{ProfileView}
+use Rattle.wire_profile.specs.Indexes.{ProfileView}
 use Rattle.wire_profile.specs.Profiles.{IsProfile}
 use Rattle.wire_values.specs.Calls.{call_in, call_tree}
 use Rattle.wire_values.specs.CarriedFrames.{IsFrame}

@@ -7,7 +7,7 @@ use Rattle.box_server.specs.declared.entry.Entry.{Entry}
 use Rattle.box_server.specs.Keeping.{KeeperState, Keeps}
 use Rattle.box_server.proofs.Added.{keeps_as}
 use Rattle.wire_profile.specs.declared.wire_fault.WireFault.{WireFault}
-use Rattle.wire_profile.specs.Places.{ProfileView}
+use Rattle.wire_profile.specs.Indexes.{ProfileView}
 use Rattle.box_wire.specs.Framing.{WireRefused}
 use Rattle.box_wire.specs.Kinds.{calls}
 use Rattle.update_sessions.specs.declared.fault.SessionFault.TheVariants as fault

@@ -8,7 +8,7 @@ use Rattle.box_client.specs.Asking.{ticks, wakes, is_one_asking}
 use Rattle.box_client.specs.Replies.{Cause}
 use Rattle.box_client.specs.declared.fault.ClientFault.{ClientFault}
 use Rattle.box_world.specs.Streams.{begun}
-use Rattle.wire_profile.specs.Places.{ProfileView}
+use Rattle.wire_profile.specs.Indexes.{ProfileView}
 use Rattle.box_wire.specs.Kinds.{frames}
 use Rattle.box_wire.specs.Framing.{WireRefused}
 use Rattle.update_sessions.specs.declared.fault.SessionFault.{SessionFault}

@@ -13,7 +13,7 @@ use Rattle.box_client.specs.Asking.{ticks, is_one_asking}
 use Rattle.box_client.specs.declared.fault.ClientFault.{ClientFault}
 use Rattle.box_client.specs.declared.fault.ClientFault.TheVariants as client
 use Rattle.box_world.specs.Worlds.{after_reply}
-use Rattle.wire_profile.specs.Places.{ProfileView}
+use Rattle.wire_profile.specs.Indexes.{ProfileView}
 use Rattle.update_sessions.specs.Packed.{MeansFrame, SpellsCall}
 use Rattle.update_sessions.specs.Exchanges.{Side}
 

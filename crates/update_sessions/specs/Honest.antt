@@ -9,7 +9,7 @@ use Rattle.box_world.specs.Agreeing.{Agrees}
 use Rattle.box_world.specs.Streams as streams
 use Rattle.box_world.specs.Streams.{Doing, past_of, begun, Honest, heard_frame, told_push, told_reply}
 use Rattle.box_world.specs.Recovering.{AnswersAsked, most_frames}
-use Rattle.wire_profile.specs.Places.{ProfileView}
+use Rattle.wire_profile.specs.Indexes.{ProfileView}
 use Rattle.update_sessions.specs.declared.fault.SessionFault.{SessionFault}
 use Rattle.update_sessions.specs.declared.fault.SessionFault.TheVariants.{Client}
 use Rattle.update_sessions.specs.Heard.{Hears}

@@ -6,7 +6,7 @@ use Rattle.tl_base.specs.declared.packet.PacketFault.{PacketFault}
 use Rattle.tl_base.specs.declared.packet.PacketFault.TheVariants as packets
 use Rattle.box_events.specs.declared.requests.Numbered.{Numbered}
 use Rattle.box_events.specs.declared.replies.Frame.{Frame}
-use Rattle.wire_profile.specs.Places.{ProfileView}
+use Rattle.wire_profile.specs.Indexes.{ProfileView}
 use Rattle.wire_values.specs.Calls.{call_tree}
 use Rattle.wire_values.specs.CarriedFrames.{IsFrame}
 use Rattle.wire_values.specs.Frames.{frame_tree}

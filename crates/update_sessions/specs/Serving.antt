@@ -14,7 +14,7 @@ use Rattle.box_server.specs.FaultNames.{name_of}
 use Rattle.box_server.specs.Receiving.{post_answer, after_post}
 use Rattle.box_server.specs.declared.fault.PostFault.{PostFault}
 use Rattle.box_server.specs.declared.posted.Posted.{Posted}
-use Rattle.wire_profile.specs.Places.{ProfileView}
+use Rattle.wire_profile.specs.Indexes.{ProfileView}
 use Rattle.update_sessions.specs.Packed.{MeansCall, SpellsFrame}
 use Rattle.update_sessions.specs.Exchanges.{Side}
 

@@ -8,7 +8,7 @@ use Rattle.box_server.specs.Keeping.{with_more}
 use Rattle.box_client.specs.States.{ClientState}
 use Rattle.box_client.specs.Replies.{Cause}
 use Rattle.box_client.specs.declared.fault.ClientFault.{ClientFault}
-use Rattle.wire_profile.specs.Places.{ProfileView}
+use Rattle.wire_profile.specs.Indexes.{ProfileView}
 use Rattle.box_wire.specs.Kinds.{calls, frames}
 use Rattle.box_wire.specs.Framing.{WireRefused}
 use Rattle.update_sessions.specs.declared.fault.SessionFault.{SessionFault}

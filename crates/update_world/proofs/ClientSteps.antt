@@ -17,7 +17,7 @@ use Rattle.pts_machine.specs.Steps.{new_lane}
 use Rattle.box_client.specs.States.{ClientState}
 use Rattle.box_client.specs.Asking.{ticks, wakes, restarted}
 use Rattle.box_client.specs.Calls.{WatchesOne}
-use Rattle.wire_profile.specs.Places.{ProfileView}
+use Rattle.wire_profile.specs.Indexes.{ProfileView}
 use Rattle.wire_profile.specs.Profiles.{IsProfile}
 use Rattle.box_world.specs.Worlds.{Packet, request, World, asks, client_steps, goes_on, happens, watches}
 use Rattle.box_world.specs.Possible.{client_of, no_client, past}

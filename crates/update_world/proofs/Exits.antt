@@ -1,7 +1,7 @@
 -- What a step's function has to show where it ends: that the step happens, or why not.
 use Rattle.std.proofs.Common.{◌≡◌, ℕ, ◌<◌, ◌≤◌, List, [], ◌∷◌, ◌++◌, length, Some, None, Result, Ok, Err, refl, sym, ap, ◌∙◌, subst}
 use Rattle.box_events.specs.declared.steps.Step.{Step}
-use Rattle.wire_profile.specs.Places.{ProfileView}
+use Rattle.wire_profile.specs.Indexes.{ProfileView}
 use Rattle.wire_profile.specs.Profiles.{IsProfile}
 use Rattle.box_world.specs.Worlds.{Packet, World, happens}
 use Rattle.box_world.specs.Possible.{StepCause, no_client, no_packet, wrong_end, pool_full, bytes_in, client_of, packet_of, past, goes_wrong, refusal}

@@ -24,7 +24,7 @@ use Rattle.box_events.specs.declared.difference_fault.WeaveFault.TheVariants.{Ov
 use Rattle.box_client.specs.Calls.{Answers}
 use Rattle.box_client.specs.States.{ClientState}
 use Rattle.box_client.specs.Replies.{Cause, Outcome, ignored, refuses, becomes, brings, by_channels, channel_replied, group_replied, group_taken, group_woven, nothing_new, replied}
-use Rattle.wire_profile.specs.Places.{ProfileView}
+use Rattle.wire_profile.specs.Indexes.{ProfileView}
 use Rattle.box_world.specs.Worlds.{Packet, push, request, reply, World, after_reply, goes_on, happens, heard, received, run}
 use Rattle.box_world.specs.Possible.{is_for, no_client, no_packet, wrong, wrong_end, past}
 use Rattle.report_lines.specs.declared.heard.HeardAs.{HeardAs}

@@ -18,7 +18,7 @@ use Rattle.box_server.specs.Sound.{IsSound}
 use Rattle.box_server.specs.Posting.{posted, push_of}
 use Rattle.box_server.specs.Receiving.{Receives, answer_by, state_by, post_answer, after_post}
 use Rattle.box_server.specs.Refusing.{post_cause}
-use Rattle.wire_profile.specs.Places.{ProfileView}
+use Rattle.wire_profile.specs.Indexes.{ProfileView}
 use Rattle.wire_profile.specs.Profiles.{IsProfile}
 use Rattle.box_world.specs.Worlds.{Packet, push, World, sent, post_by, happens}
 use Rattle.box_world.specs.Fitting.{FrameFits}

@@ -21,7 +21,7 @@ use Rattle.box_client.specs.States.{ClientState}
 use Rattle.box_client.specs.Asking.{ticks, wakes, restarted}
 use Rattle.box_client.specs.Replies.{Cause, refuses, replied}
 use Rattle.box_client.proofs.GivenOnce.{next_past}
-use Rattle.wire_profile.specs.Places.{ProfileView}
+use Rattle.wire_profile.specs.Indexes.{ProfileView}
 use Rattle.wire_profile.specs.Profiles.{IsProfile}
 use Rattle.box_world.specs.Agreeing.{Boxes}
 use Rattle.box_world.specs.Reached.{boxes_of}

@@ -18,7 +18,7 @@ use Rattle.box_server.specs.Sound.{IsSound}
 use Rattle.wire_forms.specs.Parts.{number, word_of}
 use Rattle.wire_forms.specs.declared.numbers.TheConstants.{INVOKE}
 use Rattle.wire_forms.proofs.Words.{again}
-use Rattle.wire_profile.specs.Places.{ProfileView}
+use Rattle.wire_profile.specs.Indexes.{ProfileView}
 use Rattle.wire_profile.specs.Profiles.{IsProfile}
 use Rattle.wire_values.specs.Calls.{call_tree}
 use Rattle.wire_profile.specs.declared.rule.Root.TheVariants.{Call}

@@ -16,7 +16,7 @@ use Rattle.box_server.specs.declared.fault.PostFault.{PostFault}
 use Rattle.box_server.proofs.Soundness.{dated_sound, posted_sound}
 use Rattle.box_client.specs.Asking.{restarted, wakes}
 use Rattle.box_client.specs.States.{ClientState, new_client}
-use Rattle.wire_profile.specs.Places.{ProfileView}
+use Rattle.wire_profile.specs.Indexes.{ProfileView}
 use Rattle.wire_profile.specs.Profiles.{IsProfile}
 use Rattle.box_wire.specs.StepReading.{IsDated}
 use Rattle.box_world.specs.Worlds.{Packet, push, request, reply, World, asks, client_steps, happens, heard, new_clients, post_by, run, served, start, watches}

@@ -3,7 +3,7 @@ use Rattle.std.specs.Prelude.{◌≡◌, ℕ, ◌+◌, List, [], ◌∷◌, leng
 use Rattle.box_events.specs.declared.steps.Step.{Step}
 use Rattle.box_server.specs.Servers.{ServerState}
 use Rattle.box_client.specs.States.{ClientState}
-use Rattle.wire_profile.specs.Places.{ProfileView}
+use Rattle.wire_profile.specs.Indexes.{ProfileView}
 use Rattle.box_world.specs.Worlds.{World, start, run}
 use Rattle.box_world.specs.Possible.{AllPossible}
 use Rattle.update_world.specs.declared.fault.StepFault.{StepFault}

@@ -1,7 +1,7 @@
 -- The messages of a world as the bytes of a profile. This project's own.
 use Rattle.std.specs.Prelude.{◌≡◌, ℕ, List, [], ◌∷◌}
 use Rattle.box_events.specs.declared.replies.Frame.TheVariants.{Push, Reply}
-use Rattle.wire_profile.specs.Places.{ProfileView}
+use Rattle.wire_profile.specs.Indexes.{ProfileView}
 use Rattle.wire_values.specs.Calls.{call_tree}
 use Rattle.wire_values.specs.Frames.{frame_tree}
 use Rattle.box_wire.specs.Kinds.{calls, frames}

@@ -1,7 +1,7 @@
 //! Steps of a client.
 ghost use Rattle.std.specs.Prelude.{◌≡◌, IfOk, OnOk, length};
 ghost use Rattle.box_events.specs.declared.steps.Step.TheVariants as step;
-ghost use Rattle.wire_profile.specs.Places.{ProfileView};
+ghost use Rattle.wire_profile.specs.Indexes.{ProfileView};
 ghost use Rattle.box_world.specs.Fitting.{IsHearable};
 ghost use Rattle.update_world.specs.inner.Delivering.{IsTaken, after_frame, frame_as};
 ghost use Rattle.update_world.specs.inner.Making.{IsSteady, Makes, shown_by};

@@ -1,7 +1,7 @@
 //! Steps of the server.
 ghost use Rattle.std.specs.Prelude.{◌≡◌, ◌<◌, ◌^◌, length};
 ghost use Rattle.box_events.specs.declared.steps.Step.TheVariants as step;
-ghost use Rattle.wire_profile.specs.Places.{ProfileView};
+ghost use Rattle.wire_profile.specs.Indexes.{ProfileView};
 ghost use Rattle.update_world.specs.inner.Making.{IsSteady, Makes, shown_by};
 
 use crate::fault::StepFault;

@@ -11,7 +11,7 @@ use Rattle.tl_types.proofs.Views.{shape-Boxed, shape-Bare}
 use Rattle.tl_plan.specs.Types.{is_same, are_same}
 use Rattle.wire_forms.specs.Forms.{part_view}
 use Rattle.wire_forms.specs.declared.form.Part.{Part}
-use Rattle.wire_profile.specs.Places.{ProfileView}
+use Rattle.wire_profile.specs.Indexes.{ProfileView}
 use Rattle.wire_profile.specs.inner.Heads.{head_in}
 use Rattle.wire_profile.specs.Faults.{is_slot, are_slots}
 

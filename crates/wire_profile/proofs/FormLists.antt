@@ -4,32 +4,32 @@ use Rattle.std.specs.Prelude.{nat_lt, unwrap_or, position}
 use Rattle.std.proofs.lemmas.Bool.Decides.{nat_tests}
 use Rattle.std.proofs.lemmas.List.Quantifiers.{position-Some}
 use Rattle.wire_forms.specs.declared.numbers.TheConstants.{NO_FORM}
-use Rattle.wire_profile.specs.Places.{ProfileView, number_at, form_at}
+use Rattle.wire_profile.specs.Indexes.{ProfileView, number_at, form_at}
 use Rattle.wire_profile.specs.Profiles.{IsProfile}
 use Rattle.wire_profile.specs.inner.Insides.{IsTable}
 use Rattle.wire_profile.proofs.FormTable.{form_there, within}
 
 -- the forms of the first n declarations
 pub forms_up : List ℕ → ℕ → List ℕ
-forms_up places zero = []
-forms_up places (suc n) = forms_up places n ++ form_at places n ∷ []
+forms_up indexes zero = []
+forms_up indexes (suc n) = forms_up indexes n ++ form_at indexes n ∷ []
 
-pub none_up : (places : List ℕ) → forms_up places 0 ≡ []
+pub none_up : (indexes : List ℕ) → forms_up indexes 0 ≡ []
 unfolding forms_up
-none_up places = refl
+none_up indexes = refl
 
-pub one_up : (places : List ℕ) (n : ℕ) → forms_up places (suc n) ≡ forms_up places n ++ form_at places n ∷ []
+pub one_up : (indexes : List ℕ) (n : ℕ) → forms_up indexes (suc n) ≡ forms_up indexes n ++ form_at indexes n ∷ []
 unfolding forms_up
-one_up places n = refl
+one_up indexes n = refl
 
 length_push : (xs : List ℕ) (x : ℕ) → length (xs ++ x ∷ []) ≡ suc (length xs)
 length_push [] x = refl
 length_push (y ∷ ys) x = ap suc (length_push ys x)
 
-length_up : (places : List ℕ) (n : ℕ) → length (forms_up places n) ≡ n
+length_up : (indexes : List ℕ) (n : ℕ) → length (forms_up indexes n) ≡ n
 unfolding forms_up
-length_up places zero = refl
-length_up places (suc n) = length_push (forms_up places n) (form_at places n) ∙ ap suc (length_up places n)
+length_up indexes zero = refl
+length_up indexes (suc n) = length_push (forms_up indexes n) (form_at indexes n) ∙ ap suc (length_up indexes n)
 
 at_last : (xs : List ℕ) (x i d : ℕ) → i ≡ length xs → get_or (xs ++ x ∷ []) i d ≡ x
 at_last [] x zero d e = refl
@@ -47,39 +47,39 @@ past_end [] i d le = refl
 past_end (y ∷ ys) zero d le = absurd (omega (arith, le))
 past_end (y ∷ ys) (suc i) d le = past_end ys i d (omega (arith, le))
 
-within_up : (places : List ℕ) (n i : ℕ) → i < n → get_or (forms_up places n) i NO_FORM ≡ form_at places i
+within_up : (indexes : List ℕ) (n i : ℕ) → i < n → get_or (forms_up indexes n) i NO_FORM ≡ form_at indexes i
 unfolding forms_up
-within_up places zero i lt = absurd (omega (arith, lt))
-within_up places (suc n) i lt = by (nat_lt i n) refl (λ inside. within_up places n i inside)
+within_up indexes zero i lt = absurd (omega (arith, lt))
+within_up indexes (suc n) i lt = by (nat_lt i n) refl (λ inside. within_up indexes n i inside)
   where
-    by : (b : Bool) → nat_lt i n ≡ b → (i < n → get_or (forms_up places n) i NO_FORM ≡ form_at places i) → get_or (forms_up places n ++ form_at places n ∷ []) i NO_FORM ≡ form_at places i
-    by true e before = let inside : i < n = grind (arith, nat_tests, e) in at_first (forms_up places n) (form_at places n) i NO_FORM (omega (arith, length_up places n, inside)) ∙ before inside
+    by : (b : Bool) → nat_lt i n ≡ b → (i < n → get_or (forms_up indexes n) i NO_FORM ≡ form_at indexes i) → get_or (forms_up indexes n ++ form_at indexes n ∷ []) i NO_FORM ≡ form_at indexes i
+    by true e before = let inside : i < n = grind (arith, nat_tests, e) in at_first (forms_up indexes n) (form_at indexes n) i NO_FORM (omega (arith, length_up indexes n, inside)) ∙ before inside
     by false e before =
         let outside : n ≤ i = grind (arith, nat_tests, e) in
         let last : n ≡ i = omega (arith, outside, lt) in
-        at_last (forms_up places n) (form_at places n) i NO_FORM (omega (arith, length_up places n, last)) ∙ ap (form_at places) last
+        at_last (forms_up indexes n) (form_at indexes n) i NO_FORM (omega (arith, length_up indexes n, last)) ∙ ap (form_at indexes) last
 
-no_place : (places : List ℕ) (n i : ℕ) → ((k : ℕ) → k < length places → number_at places k < n) → n ≤ i → (o : Option ℕ) → position (λ place. place == i) places ≡ o → unwrap_or o NO_FORM ≡ NO_FORM
-no_place places n i below le None found = refl
-no_place places n i below le (Some k) found =
-    let all = position-Some (λ place. place == i) places k NO_FORM found in
-    let same : number_at places k ≡ i = eqb-true _ _ all.1 in
+no_index : (indexes : List ℕ) (n i : ℕ) → ((k : ℕ) → k < length indexes → number_at indexes k < n) → n ≤ i → (o : Option ℕ) → position (λ index. index == i) indexes ≡ o → unwrap_or o NO_FORM ≡ NO_FORM
+no_index indexes n i below le None found = refl
+no_index indexes n i below le (Some k) found =
+    let all = position-Some (λ index. index == i) indexes k NO_FORM found in
+    let same : number_at indexes k ≡ i = eqb-true _ _ all.1 in
     absurd (omega (arith, below k all.0, same, le))
 
 -- the table of all declarations
-pub whole_table : (p : ProfileView) → IsProfile p → (n : ℕ) (table : List ℕ) → length p.schema.decls ≤ n → table ≡ forms_up p.places n → IsTable p table
+pub whole_table : (p : ProfileView) → IsProfile p → (n : ℕ) (table : List ℕ) → length p.schema.decls ≤ n → table ≡ forms_up p.indexes n → IsTable p table
 whole_table p good n table all is i =
     ap (λ (xs : List ℕ). get_or xs i NO_FORM) is ∙ by (nat_lt i n) refl
   where
-    below : (k : ℕ) → k < length p.places → number_at p.places k < n
+    below : (k : ℕ) → k < length p.indexes → number_at p.indexes k < n
     below k lt =
         let f = form_there k (omega (arith, good.count, lt)) in
         let h = good.forms_there k f.0 f.1 in
-        let inside = within p.schema.decls (number_at p.places k) h.d h.there in
+        let inside = within p.schema.decls (number_at p.indexes k) h.d h.there in
         omega (arith, all, inside)
 
-    by : (b : Bool) → nat_lt i n ≡ b → get_or (forms_up p.places n) i NO_FORM ≡ form_at p.places i
-    by true e = within_up p.places n i (grind (arith, nat_tests, e))
+    by : (b : Bool) → nat_lt i n ≡ b → get_or (forms_up p.indexes n) i NO_FORM ≡ form_at p.indexes i
+    by true e = within_up p.indexes n i (grind (arith, nat_tests, e))
     by false e =
         let outside : n ≤ i = grind (arith, nat_tests, e) in
-        past_end (forms_up p.places n) i NO_FORM (omega (arith, length_up p.places n, outside)) ∙ sym (no_place p.places n i below outside (position (λ place. place == i) p.places) refl)
+        past_end (forms_up p.indexes n) i NO_FORM (omega (arith, length_up p.indexes n, outside)) ∙ sym (no_index p.indexes n i below outside (position (λ index. index == i) p.indexes) refl)

@@ -1,4 +1,4 @@
--- The numbers of types and the places of forms, as they are found.
+-- The numbers of types and the indexes of forms, as they are found.
 use Rattle.std.proofs.Common.{◌≡◌, ℕ, zero, suc, ◌<◌, ◌≤◌, List, [], ◌∷◌, ◌++◌, length, map, take, get_or, Option, Some, None, Bool, true, false, ◌&&◌, refl, sym, ap, ◌∙◌, subst, inl, inr, arith, true≢false}
 use Rattle.std.specs.Prelude.{unwrap_or}
 use Rattle.std.specs.List.{position_or_len}
@@ -10,7 +10,7 @@ use Rattle.tl_schema.specs.Types as type
 use Rattle.tl_schema.specs.Schemas.{Declaration, Declared}
 use Rattle.tl_schema.specs.CheckedPrograms.{Finds}
 use Rattle.tl_schema.specs.AskedTypes.{IsTypeText}
-use Rattle.tl_names.specs.Places.{types_of}
+use Rattle.tl_names.specs.Indexes.{types_of}
 use Rattle.tl_plan.specs.Types.{is_equal}
 use Rattle.wire_forms.specs.Forms.{FormView}
 use Rattle.wire_profile.specs.Faults.{has_name}
@@ -33,7 +33,7 @@ pub head_found : (S : Declared) (name : List ℕ) (T : Shape) (o : Option ℕ) (
 head_found S name T (Some g) h n is one none found e = inl (subst (IsTypeText S.program name) (head_shape T g (sym found) ∙ ap (λ (k : ℕ). boxed k no_shapes) (sym e)) is)
 head_found S name T None h n is one none found e = inr (e ∙ none, λ g other. none_some g (found ∙ ap head_in (one (boxed g no_shapes) other)))
 
--- ---- places
+-- ---- indexes
 
 equal_is : (a b : Bool) → is_equal a b ≡ true → b ≡ a
 equal_is true true e = refl
@@ -64,16 +64,16 @@ by_test : (b : Bool) → (b ≡ true → ⊥) → b ≡ false
 by_test true not_so = absurd (not_so refl)
 by_test false not_so = refl
 
-pub place_found : (ds : List Declaration) (f : FormView) (o : Option ℕ) (n : ℕ) → Finds ds f.name f.function o → n ≡ length ds → unwrap_or o n ≡ position_or_len (has_name f) ds
-place_found ds f (Some i) n ((d, there, name, function), before) e =
+pub index_found : (ds : List Declaration) (f : FormView) (o : Option ℕ) (n : ℕ) → Finds ds f.name f.function o → n ≡ length ds → unwrap_or o n ≡ position_or_len (has_name f) ds
+index_found ds f (Some i) n ((d, there, name, function), before) e =
     sym (position_or_len_is (has_name f) ds i d (let lt = within ds i d there in omega (arith, lt))
     (λ k lt. by_test _ (λ is.
     let inside = within ds i d there in
     let named = name_is f (get_or ds k d) is in
     before k lt (get_or ds k d, slice_get-get_or ds k d (omega (arith, lt, inside)), named.0, named.1)))
     (λ lt. ap (has_name f) (get_or_from_slice_get ds i d d there) ∙ is_named f d name function))
-place_found [] f None n none e = e
-place_found (d ∷ ds) f None n none e =
+index_found [] f None n none e = e
+index_found (d ∷ ds) f None n none e =
     e ∙ sym (position_or_len_is (has_name f) (d ∷ ds) (length (d ∷ ds)) d (omega arith)
     (λ k lt. by_test _ (λ is. let named = name_is f (get_or (d ∷ ds) k d) is in none k (get_or (d ∷ ds) k d, slice_get-get_or (d ∷ ds) k d lt, named.0, named.1)))
     (λ lt. absurd (omega (arith, lt))))

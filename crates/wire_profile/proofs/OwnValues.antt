@@ -17,7 +17,7 @@ use Rattle.wire_forms.specs.declared.form.Cell.TheVariants.{Whole, Signed, Long,
 use Rattle.wire_forms.specs.Forms.{FormView, PartView, cells_of}
 use Rattle.wire_forms.specs.Parts.{first, flag, is_final}
 use Rattle.wire_forms.specs.IsOf.{IsShort, IsField, IsOf, EachOf, AreOf}
-use Rattle.wire_profile.specs.Places.{ProfileView, number_at, form_at, cell_shape, cell_cond, slot_of}
+use Rattle.wire_profile.specs.Indexes.{ProfileView, number_at, form_at, cell_shape, cell_cond, slot_of}
 use Rattle.wire_profile.specs.Profiles.{IsProfile, IsForm}
 use Rattle.wire_profile.specs.Renaming.{renamed, renamed_each}
 use Rattle.wire_profile.specs.SpelledForms.{owned, IsServed, AreServed, StandsAlone}
@@ -139,9 +139,9 @@ field_is : (p : ProfileView) (flags : ValueView) (before : List ValueView) (c : 
     → ((stands_by (cell_cond c) before ≡ true) × Spells p.schema (closed [] (cell_shape p c)) v x) ⊎ ((stands_by (cell_cond c) before ≡ false) × (v ≡ absent) × (x ≡ []))
     → (StandsAlone c → Spells p.schema (cell_shape p c) v x → IsOf c (owned p v)) → (cs : List Cell) → AreGood (c ∷ cs) → IsField flags c (owned p v) (IsOf c (owned p v)) × AreGood cs
 field_is p flags before Final v x bits (inl (set, s)) law cs good =
-    (flag_by (is_final flags) (form_at p.places) v (λ _. flag_there p.schema v x s) (λ clear. absurd (true≢false (sym set ∙ bits refl ∙ clear))), good)
+    (flag_by (is_final flags) (form_at p.indexes) v (λ _. flag_there p.schema v x s) (λ clear. absurd (true≢false (sym set ∙ bits refl ∙ clear))), good)
 field_is p flags before Final v x bits (inr (clear, none, empty)) law cs good =
-    (flag_by (is_final flags) (form_at p.places) v (λ set. absurd (true≢false (sym set ∙ sym (bits refl) ∙ clear))) (λ _. none), good)
+    (flag_by (is_final flags) (form_at p.indexes) v (λ set. absurd (true≢false (sym set ∙ sym (bits refl) ∙ clear))) (λ _. none), good)
 field_is p flags before Whole v x bits s law cs good = (there p.schema (cell_shape p Whole) before v x s (law good.0), good.1)
 field_is p flags before Signed v x bits s law cs good = (there p.schema (cell_shape p Signed) before v x s (law good.0), good.1)
 field_is p flags before Long v x bits s law cs good = (there p.schema (cell_shape p Long) before v x s (law good.0), good.1)
@@ -185,41 +185,41 @@ mutual
   own_of p good (text x) Key b alone s served = s.1
   own_of p good (nat n) Flags b alone s served = s.1
   own_of p good (list vs) Ids b alone s served =
-      (short (form_at p.places) vs s.4, each_of p good vs Signed s.2 tt refl (elements p.schema (cell_shape p Signed) s.1 true s.0 vs s.2 s.3 s.6))
+      (short (form_at p.indexes) vs s.4, each_of p good vs Signed s.2 tt refl (elements p.schema (cell_shape p Signed) s.1 true s.0 vs s.2 s.3 s.6))
   own_of p good (list vs) Bodies b alone s served =
-      (short (form_at p.places) vs s.4, each_of p good vs Body s.2 tt refl (elements p.schema (cell_shape p Body) s.1 true s.0 vs s.2 s.3 s.6))
+      (short (form_at p.indexes) vs s.4, each_of p good vs Body s.2 tt refl (elements p.schema (cell_shape p Body) s.1 true s.0 vs s.2 s.3 s.6))
   own_of p good (list vs) (Many h) b alone s served =
-      (short (form_at p.places) vs s.4, each_of p good vs (One h) s.2 tt refl (elements p.schema (cell_shape p (One h)) s.1 true s.0 vs s.2 s.3 s.6))
+      (short (form_at p.indexes) vs s.4, each_of p good vs (One h) s.2 tt refl (elements p.schema (cell_shape p (One h)) s.1 true s.0 vs s.2 s.3 s.6))
   own_of p good (list vs) (ManyBare j) b alone s served =
-      (short (form_at p.places) vs s.4, each_of p good vs (Bare j) s.2 alone refl (elements p.schema (cell_shape p (Bare j)) s.1 true s.0 vs s.2 s.3 s.6))
+      (short (form_at p.indexes) vs s.4, each_of p good vs (Bare j) s.2 alone refl (elements p.schema (cell_shape p (Bare j)) s.1 true s.0 vs s.2 s.3 s.6))
   own_of p good (node e vs) (One h) b alone (d, args, prefix, r, begin, split, inner) served =
-      let k = form_at p.places e in
+      let k = form_at p.indexes e in
       let m = boxed_is p.schema (number_at p.heads h) e d args prefix begin in
       let is = member p good h e d m.0 in
       let f = member_form h k is in
       let declares = declared p good e k f.0 d refl f.1.there m.0.there in
-      (is, by_cells k f.0 (renamed_each (form_at p.places) vs) f.1.there (all_of p good vs f.0.parts r (form_is_good k f.0 f.1.there) (no_flag_first k f.0 f.1.there) (its_fields p f.0 d args vs r m.1 declares inner) (are_served f.0.parts (renamed_each (form_at p.places) vs) (no_query k f.0 f.1.there f.1.function))))
+      (is, by_cells k f.0 (renamed_each (form_at p.indexes) vs) f.1.there (all_of p good vs f.0.parts r (form_is_good k f.0 f.1.there) (no_flag_first k f.0 f.1.there) (its_fields p f.0 d args vs r m.1 declares inner) (are_served f.0.parts (renamed_each (form_at p.indexes) vs) (no_query k f.0 f.1.there f.1.function))))
   own_of p good (node e vs) (Bare j) b alone (d, args, prefix, r, begin, split, inner) served =
-      let m = bare_is p.schema (number_at p.places j) e d args prefix begin in
+      let m = bare_is p.schema (number_at p.indexes j) e d args prefix begin in
       let f = member_form alone.0 j alone.1 in
-      let is : form_at p.places e ≡ j = ap (form_at p.places) (sym m.0) ∙ own_again p good j f.0 f.1.there in
+      let is : form_at p.indexes e ≡ j = ap (form_at p.indexes) (sym m.0) ∙ own_again p good j f.0 f.1.there in
       let declares = declared p good e j f.0 d is f.1.there m.1 in
-      (is, by_cells j f.0 (renamed_each (form_at p.places) vs) f.1.there (all_of p good vs f.0.parts r (form_is_good j f.0 f.1.there) (no_flag_first j f.0 f.1.there) (its_fields p f.0 d args vs r m.2 declares inner) (are_served f.0.parts (renamed_each (form_at p.places) vs) (no_query j f.0 f.1.there f.1.function))))
+      (is, by_cells j f.0 (renamed_each (form_at p.indexes) vs) f.1.there (all_of p good vs f.0.parts r (form_is_good j f.0 f.1.there) (no_flag_first j f.0 f.1.there) (its_fields p f.0 d args vs r m.2 declares inner) (are_served f.0.parts (renamed_each (form_at p.indexes) vs) (no_query j f.0 f.1.there f.1.function))))
   own_of p good (call e vs) Query b alone (d, r, is_call, fn, split, inner) served =
-      let k = form_at p.places e in
+      let k = form_at p.indexes e in
       let f = function_form k served.0 in
       let declares = declared p good e k f.0 d refl f.1 fn.there in
-      (served.0, by_cells k f.0 (renamed_each (form_at p.places) vs) f.1 (all_of p good vs f.0.parts r (form_is_good k f.0 f.1) (no_flag_first k f.0 f.1) (its_fields p f.0 d no_shapes vs r refl declares inner) (subst (λ (cs : List Cell). AreServed cs (renamed_each (form_at p.places) vs)) (cells_are k f.0 f.1) served.1)))
+      (served.0, by_cells k f.0 (renamed_each (form_at p.indexes) vs) f.1 (all_of p good vs f.0.parts r (form_is_good k f.0 f.1) (no_flag_first k f.0 f.1) (its_fields p f.0 d no_shapes vs r refl declares inner) (subst (λ (cs : List Cell). AreServed cs (renamed_each (form_at p.indexes) vs)) (cells_are k f.0 f.1) served.1)))
   own_of p good v Final b alone s served = absurd alone
   own_of p good v c b alone s served = absurd (clash (matched p.schema (cell_shape p c) v b s))
 
-  each_of : (p : ProfileView) (good : IsProfile p) (vs : ValueViews) (c : Cell) (b : List ℕ) → StandsAlone c → is_query c ≡ false → SpellEach p.schema (cell_shape p c) vs b → EachOf c (renamed_each (form_at p.places) vs)
+  each_of : (p : ProfileView) (good : IsProfile p) (vs : ValueViews) (c : Cell) (b : List ℕ) → StandsAlone c → is_query c ≡ false → SpellEach p.schema (cell_shape p c) vs b → EachOf c (renamed_each (form_at p.indexes) vs)
   each_of p good no_values c b alone asks s = tt
   each_of p good (value v vs) c b alone asks (x, y, split, s, more) = (own_of p good v c x alone s (served_alone c (owned p v) asks), each_of p good vs c y alone asks more)
 
   -- all fields of a record
-  all_of : (p : ProfileView) (good : IsProfile p) (vs : ValueViews) (parts : List PartView) (b : List ℕ) → AreGood (cells parts) → begins_with_flag parts ≡ false → SpellFields p.schema [] [] (map (slot_of p) parts) vs b → AreServed (cells parts) (renamed_each (form_at p.places) vs)
-      → AreOf (first (renamed_each (form_at p.places) vs)) (cells parts) (renamed_each (form_at p.places) vs)
+  all_of : (p : ProfileView) (good : IsProfile p) (vs : ValueViews) (parts : List PartView) (b : List ℕ) → AreGood (cells parts) → begins_with_flag parts ≡ false → SpellFields p.schema [] [] (map (slot_of p) parts) vs b → AreServed (cells parts) (renamed_each (form_at p.indexes) vs)
+      → AreOf (first (renamed_each (form_at p.indexes) vs)) (cells parts) (renamed_each (form_at p.indexes) vs)
   all_of p good no_values [] b cells_good no_flag s served = tt
   all_of p good no_values (part ∷ parts) b cells_good no_flag s served = absurd s
   all_of p good (value v vs) [] b cells_good no_flag s served = absurd s
@@ -229,10 +229,10 @@ mutual
 
   -- those after the first, u
   fields_of : (p : ProfileView) (good : IsProfile p) (vs : ValueViews) (u : ValueView) (before : List ValueView) (parts : List PartView) (b : List ℕ) → AreGood (cells parts) → SpellFields p.schema [] (u ∷ before) (map (slot_of p) parts) vs b
-      → AreServed (cells parts) (renamed_each (form_at p.places) vs) → AreOf (owned p u) (cells parts) (renamed_each (form_at p.places) vs)
+      → AreServed (cells parts) (renamed_each (form_at p.indexes) vs) → AreOf (owned p u) (cells parts) (renamed_each (form_at p.indexes) vs)
   fields_of p good no_values u before [] b cells_good s served = tt
   fields_of p good no_values u before (part ∷ parts) b cells_good s served = absurd s
   fields_of p good (value v vs) u before [] b cells_good s served = absurd s
   fields_of p good (value v vs) u before (part ∷ parts) b cells_good (x, y, split, s, more) served =
-      let here = field_is p (owned p u) (u ∷ before) part.cell v x (λ is. ap (λ (n : ℕ). is_bit n 0) (sym (bits_same (form_at p.places) u))) s (λ alone spelled. own_of p good v part.cell x alone spelled served.0) (cells parts) cells_good in
+      let here = field_is p (owned p u) (u ∷ before) part.cell v x (λ is. ap (λ (n : ℕ). is_bit n 0) (sym (bits_same (form_at p.indexes) u))) s (λ alone spelled. own_of p good v part.cell x alone spelled served.0) (cells parts) cells_good in
       (here.0, fields_of p good vs u (before ++ v ∷ []) parts y here.1 more served.1)

@@ -8,12 +8,12 @@ use Rattle.std.proofs.lemmas.Option.{get_or_from_slice_get}
 use Rattle.std.proofs.lemmas.Slice.Eq.{bytes_eq-Decides}
 use Rattle.tl_schema.specs.Schemas.{Slot, Declaration, Declared}
 use Rattle.tl_schema.specs.CheckedPrograms.{IsSchema}
-use Rattle.tl_names.specs.Places.{types_of}
+use Rattle.tl_names.specs.Indexes.{types_of}
 use Rattle.tl_plan.proofs.SameTypes.{same_is}
 use Rattle.wire_forms.specs.Forms.{FormView, PartView, forms, constructs}
-use Rattle.wire_profile.specs.Places.{ProfileView, number_at, form_at, cell_cond, cell_shape, cell_var, slot_of, result_shape, variables_of}
+use Rattle.wire_profile.specs.Indexes.{ProfileView, number_at, form_at, cell_cond, cell_shape, cell_var, slot_of, result_shape, variables_of}
 use Rattle.wire_profile.specs.Profiles.{IsForm, HasForm, IsProfile}
-use Rattle.wire_profile.specs.Faults.{AnswersProfile, FaultView, IsAnswer, IsFound, TellsFault, are_slots, declares, differs, first_fault, first_further, form_fault, has_head, has_name, is_condition, is_further, is_slot, is_variable, missing, or_else, place_of, profile_answer, profile_fault, profile_of, told_by}
+use Rattle.wire_profile.specs.Faults.{AnswersProfile, FaultView, IsAnswer, IsFound, TellsFault, are_slots, declares, differs, first_fault, first_further, form_fault, has_head, has_name, is_condition, is_further, is_slot, is_variable, missing, or_else, declaration_index, profile_answer, profile_fault, profile_of, told_by}
 use Rattle.wire_profile.specs.declared.fault.ProfileFault.{ProfileFault}
 use Rattle.wire_profile.specs.declared.fault.ProfileFault.TheVariants as fault
 use Rattle.wire_profile.proofs.FormTable.{some_is, clash, within}
@@ -91,10 +91,10 @@ none_first : (m later : Option FaultView) → or_else m later ≡ None → (m �
 none_first None later e = (refl, e)
 none_first (Some found) later e = absurd (none_some found (sym e))
 
-none_faulty : (p : ProfileView) (fs : List FormView) → first_fault p fs ≡ None → (k : ℕ) (f : FormView) → slice_get fs k ≡ Some f → form_fault p f (slice_get p.schema.decls (place_of p.schema f)) ≡ None
+none_faulty : (p : ProfileView) (fs : List FormView) → first_fault p fs ≡ None → (k : ℕ) (f : FormView) → slice_get fs k ≡ Some f → form_fault p f (slice_get p.schema.decls (declaration_index p.schema f)) ≡ None
 none_faulty p [] e k f at = absurd (none_some f at)
 none_faulty p (g ∷ fs) e zero f at =
-    subst (λ (h : FormView). form_fault p h (slice_get p.schema.decls (place_of p.schema h)) ≡ None) (some_is g f at) (none_first _ _ e).0
+    subst (λ (h : FormView). form_fault p h (slice_get p.schema.decls (declaration_index p.schema h)) ≡ None) (some_is g f at) (none_first _ _ e).0
 none_faulty p (g ∷ fs) e (suc k) f at = none_faulty p fs (none_first _ _ e).1 k f at
 
 passes : (b : Bool) (found : FaultView) → (if b then None else Some found) ≡ None → b ≡ true
@@ -105,33 +105,33 @@ declared_by : (p : ProfileView) (f : FormView) (o : Option Declaration) → form
 declared_by p f None e = absurd (none_some (missing f.name) (sym e))
 declared_by p f (Some d) e = (d, refl, passes (declares p f d) (differs f.name) e)
 
-place_at : (p : ProfileView) (k : ℕ) (f : FormView) (fs : List FormView) → slice_get fs k ≡ Some f → number_at (map (place_of p.schema) fs) k ≡ place_of p.schema f
-place_at p k f [] at = absurd (none_some f at)
-place_at p zero f (g ∷ fs) at = ap (place_of p.schema) (some_is g f at)
-place_at p (suc k) f (g ∷ fs) at = place_at p k f fs at
+index_at : (p : ProfileView) (k : ℕ) (f : FormView) (fs : List FormView) → slice_get fs k ≡ Some f → number_at (map (declaration_index p.schema) fs) k ≡ declaration_index p.schema f
+index_at p k f [] at = absurd (none_some f at)
+index_at p zero f (g ∷ fs) at = ap (declaration_index p.schema) (some_is g f at)
+index_at p (suc k) f (g ∷ fs) at = index_at p k f fs at
 
 form_there : (p : ProfileView) → IsFound p → first_fault p forms ≡ None → (k : ℕ) (f : FormView) → slice_get forms k ≡ Some f → HasForm p k f
 form_there p found none k f at =
-    let has = declared_by p f (slice_get p.schema.decls (place_of p.schema f)) (none_faulty p forms none k f at) in
-    let place : number_at p.places k ≡ place_of p.schema f = ap (λ (xs : List ℕ). number_at xs k) found.places ∙ place_at p k f forms at in
-    let inside = within p.schema.decls (place_of p.schema f) has.0 has.1 in
-    let named : has_name f has.0 ≡ true = ap (has_name f) (sym (get_or_from_slice_get p.schema.decls (place_of p.schema f) has.0 has.0 has.1)) ∙ passes_at_first (has_name f) p.schema.decls has.0 inside in
-    record { d = has.0; there = ap (slice_get p.schema.decls) place ∙ has.1; is = form_is p f has.0 named has.2 }
+    let has = declared_by p f (slice_get p.schema.decls (declaration_index p.schema f)) (none_faulty p forms none k f at) in
+    let index : number_at p.indexes k ≡ declaration_index p.schema f = ap (λ (xs : List ℕ). number_at xs k) found.indexes ∙ index_at p k f forms at in
+    let inside = within p.schema.decls (declaration_index p.schema f) has.0 has.1 in
+    let named : has_name f has.0 ≡ true = ap (has_name f) (sym (get_or_from_slice_get p.schema.decls (declaration_index p.schema f) has.0 has.0 has.1)) ∙ passes_at_first (has_name f) p.schema.decls has.0 inside in
+    record { d = has.0; there = ap (slice_get p.schema.decls) index ∙ has.1; is = form_is p f has.0 named has.2 }
 
 -- ---- further constructors
 
-none_further : (p : ProfileView) (j : ℕ) (ds : List Declaration) → first_further p j ds ≡ None → (i : ℕ) (d : Declaration) → slice_get ds i ≡ Some d → (k : ℕ) → k ≡ j + i → is_further 0 p.heads d.head (form_at p.places k) ≡ false
+none_further : (p : ProfileView) (j : ℕ) (ds : List Declaration) → first_further p j ds ≡ None → (i : ℕ) (d : Declaration) → slice_get ds i ≡ Some d → (k : ℕ) → k ≡ j + i → is_further 0 p.heads d.head (form_at p.indexes k) ≡ false
 none_further p j [] e i d at k is = absurd (none_some d at)
 none_further p j (g ∷ ds) e zero d at k is =
-    let here = by (is_further 0 p.heads g.head (form_at p.places j)) (differs g.name) (first_further p (suc j) ds) e in
+    let here = by (is_further 0 p.heads g.head (form_at p.indexes j)) (differs g.name) (first_further p (suc j) ds) e in
     let same : j ≡ k = omega (arith, is) in
-    subst (λ (n : ℕ). is_further 0 p.heads d.head (form_at p.places n) ≡ false) same (subst (λ (x : Declaration). is_further 0 p.heads x.head (form_at p.places j) ≡ false) (some_is g d at) here.0)
+    subst (λ (n : ℕ). is_further 0 p.heads d.head (form_at p.indexes n) ≡ false) same (subst (λ (x : Declaration). is_further 0 p.heads x.head (form_at p.indexes j) ≡ false) (some_is g d at) here.0)
   where
     by : (b : Bool) (found : FaultView) (later : Option FaultView) → (if b then Some found else later) ≡ None → (b ≡ false) × (later ≡ None)
     by true found later e = absurd (none_some found (sym e))
     by false found later e = (refl, e)
 none_further p j (g ∷ ds) e (suc i) d at k is =
-    none_further p (suc j) ds (by (is_further 0 p.heads g.head (form_at p.places j)) (differs g.name) (first_further p (suc j) ds) e).1 i d at k (omega (arith, is))
+    none_further p (suc j) ds (by (is_further 0 p.heads g.head (form_at p.indexes j)) (differs g.name) (first_further p (suc j) ds) e).1 i d at k (omega (arith, is))
   where
     by : (b : Bool) (found : FaultView) (later : Option FaultView) → (if b then Some found else later) ≡ None → (b ≡ false) × (later ≡ None)
     by true found later e = absurd (none_some found (sym e))
@@ -155,10 +155,10 @@ is_profile p sound found none =
     let both = none_first (first_fault p forms) (first_further p 0 p.schema.decls) none in
     record {
       schema = sound;
-      count = ap length found.places ∙ length-map forms (place_of p.schema);
+      count = ap length found.indexes ∙ length-map forms (declaration_index p.schema);
       heads = found.heads;
       forms_there = form_there p found both.0;
-      no_more = λ i h head d at there same. is_made 0 p.heads d.head (form_at p.places i) (none_further p 0 p.schema.decls both.1 i d at i (omega arith)) h head there same h (omega arith);
+      no_more = λ i h head d at there same. is_made 0 p.heads d.head (form_at p.indexes i) (none_further p 0 p.schema.decls both.1 i d at i (omega arith)) h head there same h (omega arith);
     }
 
 pub checked : (p : ProfileView) (r : Result (Unit {0}) ProfileFault) → first_fault p forms ≡ None → IsSchema p.schema → IsFound p → TellsFault (first_further p 0 p.schema.decls) r → OnOk r (IsProfile p)
@@ -170,7 +170,7 @@ checked p (Err e) none sound found told = tt
 -- what is found is determined by the numbers of the types
 found_is : (p : ProfileView) → IsFound p → profile_of p.schema p.heads ≡ p
 unfolding profile_of
-found_is p found = ap (λ (xs : List ℕ). record { schema = p.schema; places = xs; heads = p.heads }) (sym found.places)
+found_is p found = ap (λ (xs : List ℕ). record { schema = p.schema; indexes = xs; heads = p.heads }) (sym found.indexes)
 
 pub answered : (p : ProfileView) (o : Option FaultView) → IsFound p → profile_fault p ≡ o → IsAnswer p.schema (told_by p o)
 unfolding profile_answer

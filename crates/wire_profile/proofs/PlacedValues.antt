@@ -17,7 +17,7 @@ use Rattle.wire_forms.specs.declared.form.Cell.TheVariants.{Whole, Signed, Long,
 use Rattle.wire_forms.specs.Forms.{FormView, PartView, cells_of}
 use Rattle.wire_forms.specs.Parts.{first, flag, is_final}
 use Rattle.wire_forms.specs.IsOf.{IsShort, IsField, IsOf, EachOf, AreOf}
-use Rattle.wire_profile.specs.Places.{ProfileView, number_at, cell_shape, cell_cond, slot_of}
+use Rattle.wire_profile.specs.Indexes.{ProfileView, number_at, cell_shape, cell_cond, slot_of}
 use Rattle.wire_profile.specs.Profiles.{IsProfile, IsForm}
 use Rattle.wire_profile.specs.Renaming.{renamed, renamed_each}
 use Rattle.wire_profile.specs.SpelledForms.{placed, StandsAlone}
@@ -42,7 +42,7 @@ flag_spelled S f before t false stands is = ([], inr (stands, ap (renamed f) is,
 
 field_spelled : (p : ProfileView) (flags : ValueView) (before : List ValueView) (c : Cell) (t : ValueView) → (is_flag c ≡ true → is_bit (bits_of (get_or before 0 absent)) 0 ≡ is_final flags) → IsField flags c t (IsOf c t)
     → (StandsAlone c → IsOf c t → Spelled p.schema (cell_shape p c) (placed p t)) → (cs : List Cell) → AreGood (c ∷ cs) → SpelledField p.schema (cell_cond c) (cell_shape p c) before (placed p t) × AreGood cs
-field_spelled p flags before Final t bits is law cs good = (flag_spelled p.schema (number_at p.places) before t (is_final flags) (bits refl) is, good)
+field_spelled p flags before Final t bits is law cs good = (flag_spelled p.schema (number_at p.indexes) before t (is_final flags) (bits refl) is, good)
 field_spelled p flags before Whole t bits is law cs good = (there p.schema (cell_shape p Whole) before (placed p t) (law good.0 is), good.1)
 field_spelled p flags before Signed t bits is law cs good = (there p.schema (cell_shape p Signed) before (placed p t) (law good.0 is), good.1)
 field_spelled p flags before Long t bits is law cs good = (there p.schema (cell_shape p Long) before (placed p t) (law good.0 is), good.1)
@@ -91,10 +91,10 @@ mutual
   placed_of p good (text x) Body alone s = (text_bytes x, (inr refl, s, refl))
   placed_of p good (text x) Key alone s = (text_bytes x, (inl refl, s, refl))
   placed_of p good (nat n) Flags alone s = (word n, (refl, s, refl))
-  placed_of p good (list vs) Ids alone s = list_spelled p.schema (number_at p.places) (cell_shape p Signed) vs s.0 (each_placed p good vs Signed tt s.1)
-  placed_of p good (list vs) Bodies alone s = list_spelled p.schema (number_at p.places) (cell_shape p Body) vs s.0 (each_placed p good vs Body tt s.1)
-  placed_of p good (list vs) (Many h) alone s = list_spelled p.schema (number_at p.places) (cell_shape p (One h)) vs s.0 (each_placed p good vs (One h) tt s.1)
-  placed_of p good (list vs) (ManyBare j) alone s = list_spelled p.schema (number_at p.places) (cell_shape p (Bare j)) vs s.0 (each_placed p good vs (Bare j) alone s.1)
+  placed_of p good (list vs) Ids alone s = list_spelled p.schema (number_at p.indexes) (cell_shape p Signed) vs s.0 (each_placed p good vs Signed tt s.1)
+  placed_of p good (list vs) Bodies alone s = list_spelled p.schema (number_at p.indexes) (cell_shape p Body) vs s.0 (each_placed p good vs Body tt s.1)
+  placed_of p good (list vs) (Many h) alone s = list_spelled p.schema (number_at p.indexes) (cell_shape p (One h)) vs s.0 (each_placed p good vs (One h) tt s.1)
+  placed_of p good (list vs) (ManyBare j) alone s = list_spelled p.schema (number_at p.indexes) (cell_shape p (Bare j)) vs s.0 (each_placed p good vs (Bare j) alone s.1)
   placed_of p good (node k vs) (One h) alone s =
       let f = member_form h k s.0 in
       let m = is_member p good h k f.0 f.1 in
@@ -104,8 +104,8 @@ mutual
       let f = member_form alone.0 j alone.1 in
       let m = is_member p good alone.0 j f.0 f.1 in
       let fields = form_fields p f.0 m.0 _ m.2 (all_placed p good vs f.0.parts (form_is_good j f.0 f.1.there) (no_flag_first j f.0 f.1.there) (its_cells j f.0 vs f.1.there s.1)) in
-      let here : Spelled p.schema (type.bare (number_at p.places j) no_shapes) (node (number_at p.places j) (renamed_each (number_at p.places) vs)) = (fields.0, (m.0, no_shapes, [], fields.0, begins.bare refl m.1.there refl, refl, fields.1)) in
-      subst (λ (n : ℕ). Spelled p.schema (type.bare (number_at p.places j) no_shapes) (node (number_at p.places n) (renamed_each (number_at p.places) vs))) (sym s.0) here
+      let here : Spelled p.schema (type.bare (number_at p.indexes j) no_shapes) (node (number_at p.indexes j) (renamed_each (number_at p.indexes) vs)) = (fields.0, (m.0, no_shapes, [], fields.0, begins.bare refl m.1.there refl, refl, fields.1)) in
+      subst (λ (n : ℕ). Spelled p.schema (type.bare (number_at p.indexes j) no_shapes) (node (number_at p.indexes n) (renamed_each (number_at p.indexes) vs))) (sym s.0) here
   placed_of p good (call k vs) Query alone s =
       let f = function_form k s.0 in
       let h = good.forms_there k f.0 f.1 in
@@ -116,14 +116,14 @@ mutual
   placed_of p good absent c alone s = absurd (no_absent c s)
   placed_of p good t c alone s = absurd s
 
-  each_placed : (p : ProfileView) (good : IsProfile p) (vs : ValueViews) (c : Cell) → StandsAlone c → EachOf c vs → (b : List ℕ) × SpellEach p.schema (cell_shape p c) (renamed_each (number_at p.places) vs) b
+  each_placed : (p : ProfileView) (good : IsProfile p) (vs : ValueViews) (c : Cell) → StandsAlone c → EachOf c vs → (b : List ℕ) × SpellEach p.schema (cell_shape p c) (renamed_each (number_at p.indexes) vs) b
   each_placed p good no_values c alone s = ([], refl)
   each_placed p good (value v vs) c alone s =
       let x = placed_of p good v c alone s.0 in
       let y = each_placed p good vs c alone s.1 in
       (x.0 ++ y.0, (x.0, y.0, refl, x.1, y.1))
 
-  all_placed : (p : ProfileView) (good : IsProfile p) (vs : ValueViews) (parts : List PartView) → AreGood (cells parts) → begins_with_flag parts ≡ false → AreOf (first vs) (cells parts) vs → (b : List ℕ) × SpellFields p.schema [] [] (map (slot_of p) parts) (renamed_each (number_at p.places) vs) b
+  all_placed : (p : ProfileView) (good : IsProfile p) (vs : ValueViews) (parts : List PartView) → AreGood (cells parts) → begins_with_flag parts ≡ false → AreOf (first vs) (cells parts) vs → (b : List ℕ) × SpellFields p.schema [] [] (map (slot_of p) parts) (renamed_each (number_at p.indexes) vs) b
   all_placed p good no_values [] cells_good no_flag s = ([], refl)
   all_placed p good no_values (part ∷ parts) cells_good no_flag s = absurd s
   all_placed p good (value v vs) [] cells_good no_flag s = absurd s
@@ -132,11 +132,11 @@ mutual
       let y = fields_placed p good vs v [] parts x.1 s.1 in
       (x.0.0 ++ y.0, (x.0.0, y.0, refl, x.0.1, y.1))
 
-  fields_placed : (p : ProfileView) (good : IsProfile p) (vs : ValueViews) (u : ValueView) (before : List ValueView) (parts : List PartView) → AreGood (cells parts) → AreOf u (cells parts) vs → (b : List ℕ) × SpellFields p.schema [] (placed p u ∷ before) (map (slot_of p) parts) (renamed_each (number_at p.places) vs) b
+  fields_placed : (p : ProfileView) (good : IsProfile p) (vs : ValueViews) (u : ValueView) (before : List ValueView) (parts : List PartView) → AreGood (cells parts) → AreOf u (cells parts) vs → (b : List ℕ) × SpellFields p.schema [] (placed p u ∷ before) (map (slot_of p) parts) (renamed_each (number_at p.indexes) vs) b
   fields_placed p good no_values u before [] cells_good s = ([], refl)
   fields_placed p good no_values u before (part ∷ parts) cells_good s = absurd s
   fields_placed p good (value v vs) u before [] cells_good s = absurd s
   fields_placed p good (value v vs) u before (part ∷ parts) cells_good s =
-      let x = field_spelled p u (placed p u ∷ before) part.cell v (λ is. ap (λ (n : ℕ). is_bit n 0) (bits_same (number_at p.places) u)) s.0 (λ alone of. placed_of p good v part.cell alone of) (cells parts) cells_good in
+      let x = field_spelled p u (placed p u ∷ before) part.cell v (λ is. ap (λ (n : ℕ). is_bit n 0) (bits_same (number_at p.indexes) u)) s.0 (λ alone of. placed_of p good v part.cell alone of) (cells parts) cells_good in
       let y = fields_placed p good vs u (before ++ placed p v ∷ []) parts x.1 s.1 in
       (x.0.0 ++ y.0, (x.0.0, y.0, refl, x.0.1, y.1))

@@ -20,7 +20,7 @@ use Rattle.wire_forms.specs.declared.form.Cell.{Cell}
 use Rattle.wire_forms.specs.declared.form.Cell.TheVariants.{Whole, Signed, Long, Body, Key, Ids, Bodies, Flags, Final, Many, One, Bare, ManyBare, Query}
 use Rattle.wire_forms.specs.declared.numbers.TheConstants.{FRAME_TYPE, STEP_TYPE, CLIENT_TYPE}
 use Rattle.wire_forms.specs.Forms.{FormView, PartView, forms}
-use Rattle.wire_profile.specs.Places.{ProfileView, number_at, form_at, cell_shape, slot_of}
+use Rattle.wire_profile.specs.Indexes.{ProfileView, number_at, form_at, cell_shape, slot_of}
 use Rattle.wire_profile.specs.Profiles.{IsProfile, IsForm, root_shapes}
 use Rattle.wire_profile.specs.SpelledForms.{StandsAlone}
 use Rattle.wire_profile.proofs.FormTable.{IsFormAt, AreGood, clash, form_is_good, has_query, is_query, member_form, no_query, some_is}
@@ -205,14 +205,14 @@ names_reached p good (Bare j) is =
     let made = alone (Bare j) is in
     let f = member_form made.0 j made.1 in
     let m = is_member p good made.0 j f.0 f.1 in
-    all_append p (fields_named p.schema [] (number_at p.places j)) [] (named_reached p (number_at p.places j) j f.0 m.0 f.1.there f.1.function m.1.there m.2) tt
+    all_append p (fields_named p.schema [] (number_at p.indexes j)) [] (named_reached p (number_at p.indexes j) j f.0 m.0 f.1.there f.1.function m.1.there m.2) tt
 names_reached p good (One h) is =
     all_flat p (fields_named p.schema []) (constructors_of p.schema (number_at p.heads h))
     (λ n e at.
     let m = (entries_are_declared p.schema).constructors (number_at p.heads h) no_shapes in
     let d = m.only e (n, at) in
-    let f = member_form h (form_at p.places e) (member p good h e d.0 d.1) in
-    named_reached p e (form_at p.places e) f.0 d.0 f.1.there f.1.function d.1.there (declared p good e (form_at p.places e) f.0 d.0 refl f.1.there d.1.there))
+    let f = member_form h (form_at p.indexes e) (member p good h e d.0 d.1) in
+    named_reached p e (form_at p.indexes e) f.0 d.0 f.1.there f.1.function d.1.there (declared p good e (form_at p.indexes e) f.0 d.0 refl f.1.there d.1.there))
 
 -- ---- how many they are
 

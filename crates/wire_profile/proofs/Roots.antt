@@ -3,7 +3,7 @@ use Rattle.std.proofs.Common.{◌≡◌, ℕ, zero, suc, ◌<◌, List, [], ◌�
 use Rattle.std.specs.Prelude.{slice_get, IsTrue}
 use Rattle.tl_program.specs.Trees.{Tree, named, percent, any_call}
 use Rattle.tl_names.specs.Parts.{IsPart}
-use Rattle.tl_names.specs.Places.{types_of, variable_of}
+use Rattle.tl_names.specs.Indexes.{types_of, variable_of}
 use Rattle.tl_names.proofs.HeadNames.{type_name}
 use Rattle.tl_schema.specs.UnknownVariable.{NamesVariable}
 use Rattle.tl_schema.specs.Types.{Shape, boxed, no_shapes}
@@ -19,7 +19,7 @@ use Rattle.tl_plan.specs.PlanLaws.{IsPlanOf}
 use Rattle.tl_plan.proofs.RootFacts.{roots_have_instances}
 use Rattle.wire_forms.specs.declared.numbers.TheConstants.{FRAME_TYPE, STEP_TYPE, CLIENT_TYPE, PUSH, STEP_DATE, CLIENT}
 use Rattle.wire_forms.specs.Forms.{forms, type_names, constructs}
-use Rattle.wire_profile.specs.Places.{ProfileView, number_at, result_shape}
+use Rattle.wire_profile.specs.Indexes.{ProfileView, number_at, result_shape}
 use Rattle.wire_profile.specs.Profiles.{IsHead, AreHeads, IsProfile, root_shapes}
 use Rattle.wire_profile.proofs.FormTable.{member_form, some_is}
 use Rattle.wire_profile.proofs.PlanLimits.{has_plan}

@@ -2,10 +2,10 @@
 use Rattle.std.specs.Prelude.{◌≡◌, ℕ, suc, List, [], ◌∷◌, length, map, Bool, true, false, not, ◌&&◌, ◌||◌, ◌==◌, nat_lt, bytes_eq, if◌then◌else◌, Option, Some, None, Result, Ok, Err, slice_get}
 use Rattle.std.specs.List.{position_or_len}
 use Rattle.tl_schema.specs.Schemas.{Slot, Declaration, Declared}
-use Rattle.tl_names.specs.Places.{types_of}
+use Rattle.tl_names.specs.Indexes.{types_of}
 use Rattle.tl_plan.specs.Types.{is_equal, is_same}
 use Rattle.wire_forms.specs.Forms.{FormView, PartView, forms, type_names, constructs}
-use Rattle.wire_profile.specs.Places.{ProfileView, number_at, form_at, cell_cond, cell_shape, cell_var, result_shape, variables_of}
+use Rattle.wire_profile.specs.Indexes.{ProfileView, number_at, form_at, cell_cond, cell_shape, cell_var, result_shape, variables_of}
 use Rattle.wire_profile.specs.Profiles.{AreHeads}
 use Rattle.wire_profile.specs.declared.fault.ProfileFault.{ProfileFault}
 use Rattle.wire_profile.specs.declared.fault.ProfileFault.TheVariants as fault
@@ -16,8 +16,8 @@ abbrev pub has_name : FormView → Declaration → Bool
 has_name f d = bytes_eq f.name d.name && is_equal f.function d.function
 
 -- the index of the first declaration of the form's name; where there is none, the number of declarations
-abbrev pub place_of : Declared → FormView → ℕ
-place_of S f = position_or_len (has_name f) S.decls
+abbrev pub declaration_index : Declared → FormView → ℕ
+declaration_index S f = position_or_len (has_name f) S.decls
 
 abbrev pub is_condition : Option (ℕ × ℕ) → Option (ℕ × ℕ) → Bool
 is_condition None None = true
@@ -64,7 +64,7 @@ form_fault p f (Some d) = if declares p f d then None else Some (differs f.name)
 -- the first form's that has one
 abbrev pub first_fault : ProfileView → List FormView → Option FaultView
 first_fault p [] = None
-first_fault p (f ∷ fs) = or_else (form_fault p f (slice_get p.schema.decls (place_of p.schema f))) (first_fault p fs)
+first_fault p (f ∷ fs) = or_else (form_fault p f (slice_get p.schema.decls (declaration_index p.schema f))) (first_fault p fs)
 
 -- form k makes none of the types with this head, whose numbers are counted from h
 abbrev pub is_further : ℕ → List ℕ → ℕ → ℕ → Bool
@@ -74,7 +74,7 @@ is_further h (n ∷ ns) head k = ((n == head) && not (constructs h k)) || is_fur
 -- the first constructor of one of the types that is none of its forms, the declarations being counted from i
 abbrev pub first_further : ProfileView → ℕ → List Declaration → Option FaultView
 first_further p i [] = None
-first_further p i (d ∷ ds) = if is_further 0 p.heads d.head (form_at p.places i) then Some (differs d.name) else first_further p (suc i) ds
+first_further p i (d ∷ ds) = if is_further 0 p.heads d.head (form_at p.indexes i) then Some (differs d.name) else first_further p (suc i) ds
 
 -- all names before all further constructors
 abbrev pub profile_fault : ProfileView → Option FaultView
@@ -82,14 +82,14 @@ profile_fault p = or_else (first_fault p forms) (first_further p 0 p.schema.decl
 
 -- ---- answers
 
--- the places are those of the forms' names, and the heads those of the types'
+-- the indexes are those of the forms' names, and the heads those of the types'
 pub record IsFound (p : ProfileView) : Type 0 where
-  pub places : p.places ≡ map (place_of p.schema) forms
+  pub indexes : p.indexes ≡ map (declaration_index p.schema) forms
   pub heads : AreHeads p.schema type_names p.heads
 
 -- where the schema has the forms, if it has them
 unfoldable pub profile_of : Declared → List ℕ → ProfileView
-profile_of S heads = record { schema = S; places = map (place_of S) forms; heads = heads }
+profile_of S heads = record { schema = S; indexes = map (declaration_index S) forms; heads = heads }
 
 abbrev pub told_by : ProfileView → Option FaultView → Result ProfileView FaultView
 told_by p None = Ok p

@@ -1,4 +1,4 @@
-pub mod Places
+pub mod Indexes
 pub mod Renaming
 pub mod Profiles
 pub mod Faults

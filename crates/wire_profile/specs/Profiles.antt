@@ -5,10 +5,10 @@ use Rattle.tl_schema.specs.Types as type
 use Rattle.tl_schema.specs.Schemas.{Declaration, Declared}
 use Rattle.tl_schema.specs.CheckedPrograms.{IsSchema}
 use Rattle.tl_schema.specs.AskedTypes.{IsTypeText}
-use Rattle.tl_names.specs.Places.{types_of}
+use Rattle.tl_names.specs.Indexes.{types_of}
 use Rattle.wire_forms.specs.Forms.{FormView, forms, type_names, constructs}
 use Rattle.wire_forms.specs.declared.numbers.TheConstants.{FRAME_TYPE, STEP_TYPE, CLIENT_TYPE}
-use Rattle.wire_profile.specs.Places.{ProfileView, number_at, form_at, slot_of, result_shape, variables_of}
+use Rattle.wire_profile.specs.Indexes.{ProfileView, number_at, form_at, slot_of, result_shape, variables_of}
 
 -- ---- types
 
@@ -36,19 +36,19 @@ pub record IsForm (p : ProfileView) (f : FormView) (d : Declaration) : Type 0 wh
   pub result : d.result ≡ result_shape p f.result
   pub head : (h : ℕ) → f.function ≡ false → f.result ≡ Some h → (d.head ≡ number_at p.heads h) × (d.head < length (types_of p.schema.program))
 
--- the declaration at the form's place declares it
+-- the declaration at the form's index declares it
 pub record HasForm (p : ProfileView) (k : ℕ) (f : FormView) : Type 0 where
   pub d : Declaration
-  pub there : slice_get p.schema.decls (number_at p.places k) ≡ Some d
+  pub there : slice_get p.schema.decls (number_at p.indexes k) ≡ Some d
   pub is : IsForm p f d
 
 -- the schema has each form at its place, and its types of these names have no further constructor
 pub record IsProfile (p : ProfileView) : Type 0 where
   pub schema : IsSchema p.schema
-  pub count : length p.places ≡ length forms
+  pub count : length p.indexes ≡ length forms
   pub heads : AreHeads p.schema type_names p.heads
   pub forms_there : (k : ℕ) (f : FormView) → slice_get forms k ≡ Some f → HasForm p k f
-  pub no_more : (i h head : ℕ) (d : Declaration) → slice_get p.schema.decls i ≡ Some d → slice_get p.heads h ≡ Some head → d.head ≡ head → IsTrue (constructs h (form_at p.places i))
+  pub no_more : (i h head : ℕ) (d : Declaration) → slice_get p.schema.decls i ≡ Some d → slice_get p.heads h ≡ Some head → d.head ≡ head → IsTrue (constructs h (form_at p.indexes i))
 
 -- ---- the plan
 

@@ -6,17 +6,17 @@ use Rattle.wire_forms.specs.declared.form.Cell.{Cell}
 use Rattle.wire_forms.specs.declared.form.Cell.TheVariants.{Final, Bare, ManyBare, Query}
 use Rattle.wire_forms.specs.Forms.{cells_of, constructs, is_function}
 use Rattle.wire_forms.specs.IsOf.{IsOf}
-use Rattle.wire_profile.specs.Places.{ProfileView, cell_shape, form_at, number_at}
+use Rattle.wire_profile.specs.Indexes.{ProfileView, cell_shape, form_at, number_at}
 use Rattle.wire_profile.specs.Profiles.{IsProfile}
 use Rattle.wire_profile.specs.Renaming.{renamed}
 
 -- the value with each declaration's form in place of its index
 abbrev pub owned : ProfileView → ValueView → ValueView
-owned p v = renamed (form_at p.places) v
+owned p v = renamed (form_at p.indexes) v
 
 -- the value with the index of each form's declaration in place of its number
 abbrev pub placed : ProfileView → ValueView → ValueView
-placed p t = renamed (number_at p.places) t
+placed p t = renamed (number_at p.indexes) t
 
 abbrev mutual
   -- each call in it is of a function of the forms

@@ -4,7 +4,7 @@ ghost use Rattle.tl_schema.specs.CheckedPrograms.{IsSchema};
 ghost use Rattle.wire_profile.specs.Profiles.{IsProfile};
 ghost use Rattle.tl_schema.specs.Seen.{declaration};
 ghost use Rattle.wire_forms.specs.Forms.{constructs, form_view, forms as the_forms, is_type};
-ghost use Rattle.wire_profile.specs.Places.{form_at};
+ghost use Rattle.wire_profile.specs.Indexes.{form_at};
 ghost use Rattle.wire_profile.specs.Faults.{IsFound, TellsFault, first_fault, first_further, form_fault, is_further, profile_fault};
 
 use crate::fault::ProfileFault;
@@ -15,7 +15,7 @@ use tl_base::Bytes;
 use wire_forms::{Form, forms};
 
 impl<'s> Layout<'s> {
-    /// Whether the schema is a profile, its forms having these places.
+    /// Whether the schema is a profile, its forms having these indexes.
     pub fn check(&self, alloc: Global) -> Result<(), ProfileFault>
         ensures fault { TellsFault (profile_fault self.now) result }
         ensures profile { OnOk result (IsProfile self.now) }
@@ -28,20 +28,20 @@ impl<'s> Layout<'s> {
         ensures { TellsFault (first_fault self.now the_forms) result }
     {
         for (k, form) in forms().iter().enumerate() {
-            self.check_form(alloc, form, self.places[k])?;
+            self.check_form(alloc, form, self.indexes[k])?;
         }
         Ok(())
     }
 
-    // What the form whose declaration has this place has.
-    fn check_form(&self, alloc: Global, form: &Form, place: u32) -> Result<(), ProfileFault>
-        ensures { TellsFault (form_fault self.now (form_view form.now) (slice_get self.now.schema.decls place)) result }
+    // What the form whose declaration has this index has.
+    fn check_form(&self, alloc: Global, form: &Form, index: u32) -> Result<(), ProfileFault>
+        ensures { TellsFault (form_fault self.now (form_view form.now) (slice_get self.now.schema.decls index)) result }
     {
-        if place >= self.schema.count() {
+        if index >= self.schema.count() {
             let name = Bytes::from_slice(alloc, form.name.as_bytes())?;
             return Err(ProfileFault::Missing { name });
         }
-        if self.declares(form, self.schema.entry(place)) {
+        if self.declares(form, self.schema.entry(index)) {
             return Ok(());
         }
         let name = Bytes::from_slice(alloc, form.name.as_bytes())?;
@@ -65,10 +65,10 @@ impl<'s> Layout<'s> {
     }
 
     fn is_further(&self, head: u32, i: u32) -> bool
-        ensures { result ≡ is_further 0 self.now.heads head (form_at self.now.places i) }
+        ensures { result ≡ is_further 0 self.now.heads head (form_at self.now.indexes i) }
     {
         for (h, own) in self.heads.iter().enumerate() {
-            if *own == head && !constructs(h, form_at(&self.places, i)) {
+            if *own == head && !constructs(h, form_at(&self.indexes, i)) {
                 return true;
             }
         }

@@ -2,8 +2,8 @@
 ghost use Rattle.std.specs.Prelude.{◌≡◌, ◌<◌, ◌^◌, ◌==◌, IfOk, length, map, position};
 ghost use Rattle.tl_schema.specs.Seen.{shape};
 ghost use Rattle.wire_forms.specs.Forms.{form_view, forms as the_forms, type_names as the_names};
-ghost use Rattle.wire_profile.specs.Faults.{place_of};
-ghost use Rattle.wire_profile.specs.Places.{form_at};
+ghost use Rattle.wire_profile.specs.Faults.{declaration_index};
+ghost use Rattle.wire_profile.specs.Indexes.{form_at};
 ghost use Rattle.wire_profile.specs.Profiles.{AreHeads, IsHead};
 ghost use Rattle.wire_profile.specs.inner.Heads.{head_in};
 
@@ -45,38 +45,38 @@ fn head_in(of: &TypeRef) -> Option<u32>
     }
 }
 
-/// The places of the forms.
-pub fn places_of(alloc: Global, schema: &Schema) -> Result<Vec<u32>, AllocError>
-    ensures { IfOk result (λ places. places.items ≡ map (place_of schema.now) the_forms) }
+/// The indexes of the forms.
+pub fn indexes_of(alloc: Global, schema: &Schema) -> Result<Vec<u32>, AllocError>
+    ensures { IfOk result (λ indexes. indexes.items ≡ map (declaration_index schema.now) the_forms) }
 {
-    let mut places = Vec::new(alloc);
+    let mut indexes = Vec::new(alloc);
     for form in forms() {
-        places.push(place_of(schema, form))?;
+        indexes.push(declaration_index(schema, form))?;
     }
-    Ok(places)
+    Ok(indexes)
 }
 
-fn place_of(schema: &Schema, form: &Form) -> u32
-    ensures { result ≡ place_of schema.now (form_view form.now) }
+fn declaration_index(schema: &Schema, form: &Form) -> u32
+    ensures { result ≡ declaration_index schema.now (form_view form.now) }
 {
     schema
         .find(form.name.as_bytes(), form.function)
         .unwrap_or(schema.count())
 }
 
-/// The form at a place.
-pub fn form_at(places: &[u32], i: u32) -> u32
-    requires { length places.now < 2 ^ 32 }
-    ensures { result ≡ form_at places.now i }
+/// The form at an index.
+pub fn form_at(indexes: &[u32], i: u32) -> u32
+    requires { length indexes.now < 2 ^ 32 }
+    ensures { result ≡ form_at indexes.now i }
 {
-    match index_of(places, i) {
+    match index_of(indexes, i) {
         Some(k) => k as u32,
         None => NO_FORM,
     }
 }
 
-fn index_of(places: &[u32], i: u32) -> Option<usize>
-    ensures { result ≡ position (λ place. place == i) places.now }
+fn index_of(indexes: &[u32], i: u32) -> Option<usize>
+    ensures { result ≡ position (λ index. index == i) indexes.now }
 {
-    places.iter().position(|place| *place == i)
+    indexes.iter().position(|index| *index == i)
 }

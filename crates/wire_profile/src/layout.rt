@@ -6,9 +6,9 @@ ghost use Rattle.tl_schema.specs.Types.{no_shapes};
 ghost use Rattle.tl_plan.specs.Types.{is_same};
 ghost use Rattle.wire_forms.specs.Forms.{form_view, part_view};
 ghost use Rattle.wire_profile.specs.Faults.{IsFound, are_slots, declares, has_head, is_condition, is_slot, is_variable};
-ghost use Rattle.wire_profile.specs.Places.{cell_cond, cell_shape, cell_var, number_at, result_shape, variables_of};
+ghost use Rattle.wire_profile.specs.Indexes.{cell_cond, cell_shape, cell_var, number_at, result_shape, variables_of};
 
-use crate::finding::{heads_of, places_of};
+use crate::finding::{heads_of, indexes_of};
 use std::alloc::{AllocError, Global};
 use std::marker::Model;
 use tl_schema::{Entry, Schema, SchemaField, TypeRef};
@@ -18,7 +18,7 @@ use wire_forms::{Cell, Form, Part};
 /// A schema, the index of each form's declaration, and the number of each type.
 pub struct Layout<'s> {
     pub schema: &'s Schema,
-    pub places: Vec<u32>,
+    pub indexes: Vec<u32>,
     pub heads: Vec<u32>,
 }
 
@@ -27,14 +27,14 @@ impl Drop for Layout<'_> {
     fn drop(self) {
         let Layout {
             schema: _,
-            places: _,
+            indexes: _,
             heads: _,
         } = self;
     }
 }
 
 impl<'s> Model for Layout<'s> {
-    ghost use Rattle.wire_profile.specs.Places.{ProfileView};
+    ghost use Rattle.wire_profile.specs.Indexes.{ProfileView};
     ghost use Rattle.wire_profile.specs.Faults.{IsFound};
     ghost use Rattle.wire_profile.specs.inner.ProfileCodes.{profile_code};
 
@@ -42,9 +42,9 @@ impl<'s> Model for Layout<'s> {
 
     ghost coded = { profile_code };
 
-    ghost view = { λ l. record { schema = l.schema.now; places = l.places.items; heads = l.heads.items } };
+    ghost view = { λ l. record { schema = l.schema.now; indexes = l.indexes.items; heads = l.heads.items } };
 
-    ghost invariant = { λ l. IsFound (record { schema = l.schema.now; places = l.places.items; heads = l.heads.items }) };
+    ghost invariant = { λ l. IsFound (record { schema = l.schema.now; indexes = l.indexes.items; heads = l.heads.items }) };
 }
 
 impl<'s> Layout<'s> {
@@ -54,10 +54,10 @@ impl<'s> Layout<'s> {
         ensures found { IfOk result (λ l. IsFound l) }
     {
         let heads = heads_of(alloc, schema)?;
-        let places = places_of(alloc, schema)?;
+        let indexes = indexes_of(alloc, schema)?;
         Ok(Layout {
             schema,
-            places,
+            indexes,
             heads,
         })
     }
@@ -110,8 +110,8 @@ impl<'s> Layout<'s> {
             Cell::Final => matches!(of, TypeRef::Flag),
             Cell::Many { head } => are_boxed(of, number_at(&self.heads, head)),
             Cell::One { head } => is_boxed(of, number_at(&self.heads, head)),
-            Cell::Bare { form } => is_bare(of, number_at(&self.places, form)),
-            Cell::ManyBare { form } => are_bare(of, number_at(&self.places, form)),
+            Cell::Bare { form } => is_bare(of, number_at(&self.indexes, form)),
+            Cell::ManyBare { form } => are_bare(of, number_at(&self.indexes, form)),
             Cell::Query => matches!(of, TypeRef::Call),
         }
     }
@@ -216,11 +216,11 @@ fn is_boxed(of: &TypeRef, number: u32) -> bool
     }
 }
 
-fn is_bare(of: &TypeRef, place: u32) -> bool
-    ensures { result ≡ is_same (type.bare place no_shapes) (shape of.now) }
+fn is_bare(of: &TypeRef, index: u32) -> bool
+    ensures { result ≡ is_same (type.bare index no_shapes) (shape of.now) }
 {
     match of {
-        TypeRef::Bare { entry, args } => place == *entry && args.is_empty(),
+        TypeRef::Bare { entry, args } => index == *entry && args.is_empty(),
         _ => false,
     }
 }
@@ -252,11 +252,11 @@ fn are_boxed(of: &TypeRef, number: u32) -> bool
     }
 }
 
-fn are_bare(of: &TypeRef, place: u32) -> bool
-    ensures { result ≡ is_same (type.vector true (type.bare place no_shapes)) (shape of.now) }
+fn are_bare(of: &TypeRef, index: u32) -> bool
+    ensures { result ≡ is_same (type.vector true (type.bare index no_shapes)) (shape of.now) }
 {
     match of {
-        TypeRef::Vector { boxed, item } => *boxed && is_bare(item, place),
+        TypeRef::Vector { boxed, item } => *boxed && is_bare(item, index),
         _ => false,
     }
 }

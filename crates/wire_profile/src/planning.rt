@@ -4,7 +4,7 @@ ghost use Rattle.tl_schema.specs.Seen.{shape};
 ghost use Rattle.tl_schema.specs.Types as type;
 ghost use Rattle.tl_schema.specs.Types.{no_shapes};
 ghost use Rattle.tl_plan.specs.PlanLaws.{IsPlanOf};
-ghost use Rattle.wire_profile.specs.Places.{number_at};
+ghost use Rattle.wire_profile.specs.Indexes.{number_at};
 ghost use Rattle.wire_profile.specs.Profiles.{IsProfile, root_shapes};
 
 use crate::layout::{Layout, number_at};

@@ -3,7 +3,7 @@ ghost use Rattle.std.specs.Prelude.{◌≡◌, ◌<◌, length};
 ghost use Rattle.tl_types.specs.Seen.{view};
 ghost use Rattle.tl_plan.specs.PlanLaws.{IsPlanOf};
 ghost use Rattle.wire_profile.specs.Faults.{AnswersProfile};
-ghost use Rattle.wire_profile.specs.Places.{number_at};
+ghost use Rattle.wire_profile.specs.Indexes.{number_at};
 ghost use Rattle.wire_profile.specs.Profiles.{IsProfile, root_shapes};
 ghost use Rattle.wire_profile.specs.SpelledForms.{owned, placed};
 
@@ -39,7 +39,7 @@ impl Drop for Profile<'_> {
 }
 
 impl<'s> Model for Profile<'s> {
-    ghost use Rattle.wire_profile.specs.Places.{ProfileView};
+    ghost use Rattle.wire_profile.specs.Indexes.{ProfileView};
     ghost use Rattle.wire_profile.specs.inner.ProfileCodes.{profile_code};
     ghost use Rattle.wire_profile.specs.inner.Insides.{IsWhole};
 
@@ -85,10 +85,10 @@ impl<'s> Profile<'s> {
     }
 
     /// The index of a form's declaration; of no form `NO_FORM`.
-    pub fn place(&self, form: u32) -> u32
-        ensures { result ≡ number_at self.now.places form }
+    pub fn index(&self, form: u32) -> u32
+        ensures { result ≡ number_at self.now.indexes form }
     {
-        number_at(&self.layout.places, form)
+        number_at(&self.layout.indexes, form)
     }
 
     /// Puts the number of its form in place of each declaration's index; where that is of no form, `NO_FORM`.
@@ -99,9 +99,9 @@ impl<'s> Profile<'s> {
     }
 
     /// Puts the index of its declaration in place of each form's number.
-    pub fn put_places(&self, value: &mut Value)
+    pub fn put_indexes(&self, value: &mut Value)
         ensures { view value.new ≡ placed self.now (view value.old) }
     {
-        rename(value, &self.layout.places, NO_FORM);
+        rename(value, &self.layout.indexes, NO_FORM);
     }
 }

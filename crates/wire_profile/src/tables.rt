@@ -14,7 +14,7 @@ pub fn table_of(alloc: Global, layout: &Layout) -> Result<Vec<u32>, AllocError>
 {
     let mut table = Vec::new(alloc);
     for i in 0..layout.schema.count() {
-        table.push(form_at(&layout.places, i))?;
+        table.push(form_at(&layout.indexes, i))?;
     }
     Ok(table)
 }

@@ -13,7 +13,7 @@ pages_of b = b.pages.items ++ b.last ∷ []
 abbrev pub box_view : Inside → BoxView
 box_view b = record { first = b.first; events = joined (pages_of b); spare = b.spare }
 
--- What holds of every box. `room` says that what is spare is there: in the last page, and in reserved pages, which have their place among the others.
+-- What holds of every box. `room` says that what is spare is there: in the last page, and in reserved pages, which have their slot among the others.
 pub record IsBox (b : Inside) : Type 0 where
   pub stop : b.end ≡ end_of (box_view b)
   pub limit : b.end ≤ MAX_END
@@ -22,4 +22,4 @@ pub record IsBox (b : Inside) : Type 0 where
   pub chained : AreChained b.first (pages_of b)
   pub fresh : AreFresh b.spares.items
   pub room : b.spare ≤ b.last.spare + PAGE_EVENTS * length b.spares.items
-  pub places : vec_len b.pages + vec_len b.spares ≤ vec_capacity b.pages
+  pub slots : vec_len b.pages + vec_len b.spares ≤ vec_capacity b.pages

@@ -31,9 +31,9 @@ AddsTo lane old new e (Ok end) = (new ≡ record old { events = old.events ++ e 
 AddsTo lane old new e (Err f) = Refuses lane (channel_end old) (count_of e) f
 
 -- where the first with an id stands, from a number on
-abbrev pub place_from : ℕ → ℤ → List ChannelBox → Option ℕ
-place_from i id [] = None
-place_from i id (c ∷ cs) = if int_eq c.id id then Some i else place_from (i + 1) id cs
+abbrev pub tail_index : ℕ → ℤ → List ChannelBox → Option ℕ
+tail_index i id [] = None
+tail_index i id (c ∷ cs) = if int_eq c.id id then Some i else tail_index (i + 1) id cs
 
 -- an event is added to the tail of a channel
 abbrev pub AddsToChannel : List ChannelBox → List ChannelBox → ℤ → EventView → Result ℕ PostFault → Type 0

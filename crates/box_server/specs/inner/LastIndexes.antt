@@ -24,12 +24,12 @@ found None = None
 found (Some i) = i
 
 -- what stands at a key, where it has a place
-abbrev pub place_in : {A : Type 0} → Indexes A → List ℕ → Option (Option ℕ)
-place_in es key = lookup (λ k. same_key key k.items) es
+abbrev pub noted_in : {A : Type 0} → Indexes A → List ℕ → Option (Option ℕ)
+noted_in es key = lookup (λ k. same_key key k.items) es
 
 -- the index that a key has, where it has one
 abbrev pub index_in : {A : Type 0} → Indexes A → List ℕ → Option ℕ
-index_in es key = found (place_in es key)
+index_in es key = found (noted_in es key)
 
 -- an entry's setting, where it is dated not before a date
 abbrev pub since_at : ℕ → Option Dated → Option Setting
@@ -56,14 +56,14 @@ abbrev pub SameIndexes : {A : Type 0} → Indexes A → Indexes A → Type 0
 SameIndexes old new = (key : List ℕ) → index_in new key ≡ index_in old key
 
 -- each setting's key has a place
-abbrev pub HavePlaces : {A : Type 0} → Indexes A → List Dated → Type 0
-HavePlaces es more = All (λ e. IsSome (place_in es e.setting.key)) more
+abbrev pub HaveKeys : {A : Type 0} → Indexes A → List Dated → Type 0
+HaveKeys es more = All (λ e. IsSome (noted_in es e.setting.key)) more
 
 -- a key with a setting or among the fresh ones changes nothing; another has a place among them then
 abbrev pub NotesFresh : {A : Type 0} → List Dated → Indexes A → Indexes A → List ℕ → Type 0
 NotesFresh L old new key =
-    (((is_some (last_of L key) || is_some (place_in old key)) ≡ true) × (new ≡ old))
-    ⊎ (((is_some (last_of L key) || is_some (place_in old key)) ≡ false) × ((q : List ℕ) → place_in new q ≡ cond (same_key q key) (Some None) (place_in old q)) × (length new ≡ length old + 1))
+    (((is_some (last_of L key) || is_some (noted_in old key)) ≡ true) × (new ≡ old))
+    ⊎ (((is_some (last_of L key) || is_some (noted_in old key)) ≡ false) × ((q : List ℕ) → noted_in new q ≡ cond (same_key q key) (Some None) (noted_in old q)) × (length new ≡ length old + 1))
 
 -- a post that sets nothing changes nothing
 abbrev pub NotesPost : {A : Type 0} → List Dated → Indexes A → Indexes A → Post → Type 0

@@ -3,7 +3,7 @@ use Rattle.std.proofs.Common.{ℕ, List, [], codes, refl, inl}
 use Rattle.tl_base.specs.Contents.{Files}
 use Rattle.tl_base.specs.declared.host.Slot.TheVariants.{Schema}
 use Rattle.tl_schema.specs.Schemas.{Declared}
-use Rattle.wire_profile.specs.Places.{ProfileView}
+use Rattle.wire_profile.specs.Indexes.{ProfileView}
 use Rattle.outside.specs.Answer.{Answer}
 use Rattle.fault_lines.specs.Profiled as answer
 use Rattle.update_commands.specs.Make.{MakeAnswer, OfMadeRun, make_job, summed, too_full}

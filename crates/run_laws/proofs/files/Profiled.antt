@@ -3,7 +3,7 @@ use Rattle.std.proofs.Common.{◌≡◌, Ok, Err, refl, subst}
 use Rattle.tl_base.specs.Contents.{Files}
 use Rattle.tl_schema.specs.Schemas.{Declared}
 use Rattle.wire_profile.specs.Faults.{FaultView, IsAnswer}
-use Rattle.wire_profile.specs.Places.{ProfileView}
+use Rattle.wire_profile.specs.Indexes.{ProfileView}
 use Rattle.outside.specs.Answer.{Answer, refused}
 use Rattle.outside.specs.declared.status.Status.{Status}
 use Rattle.fault_lines.specs.Profiled.{form_line}

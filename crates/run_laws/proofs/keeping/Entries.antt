@@ -9,7 +9,7 @@ use Rattle.box_server.specs.Keeping.{KeeperState, Keeps, with_more}
 use Rattle.box_server.specs.Rebuilding.{Rebuilds, are_right, are_right_from, is_accepted, rebuilt, with_entry}
 use Rattle.box_server.specs.Storing.{Tells}
 use Rattle.box_server.proofs.Rebuilt.{rebuilt_sound}
-use Rattle.wire_profile.specs.Places.{ProfileView}
+use Rattle.wire_profile.specs.Indexes.{ProfileView}
 use Rattle.outside.specs.Laws.{Happened}
 use Rattle.update_sessions.specs.declared.fault.SessionFault.{SessionFault}
 use Rattle.update_sessions.specs.declared.fault.SessionFault.TheVariants as fault

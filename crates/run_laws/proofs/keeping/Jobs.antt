@@ -7,7 +7,7 @@ use Rattle.box_server.specs.Servers.{ServerState}
 use Rattle.box_server.specs.declared.entry.Entry.{Entry}
 use Rattle.box_server.specs.Keeping.{with_more}
 use Rattle.box_server.specs.Storing.{Tells}
-use Rattle.wire_profile.specs.Places.{ProfileView}
+use Rattle.wire_profile.specs.Indexes.{ProfileView}
 use Rattle.outside.specs.Jobs.{MayAnswer, WritesSomeOf}
 use Rattle.outside.specs.Kept.{AddsPrefix}
 use Rattle.outside.specs.Sound.{Fits}

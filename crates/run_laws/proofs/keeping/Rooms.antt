@@ -4,7 +4,7 @@ use Rattle.tl_base.specs.Outside.{View}
 use Rattle.box_events.specs.declared.requests.Numbered.{Numbered}
 use Rattle.box_server.specs.Servers.{ServerState, dated_at}
 use Rattle.box_server.specs.declared.entry.Entry.{Entry}
-use Rattle.wire_profile.specs.Places.{ProfileView}
+use Rattle.wire_profile.specs.Indexes.{ProfileView}
 use Rattle.update_sessions.specs.declared.fault.TheConstants.{MAX_FRAMES}
 use Rattle.update_sessions.specs.Kept.{KeeperBroke, RoomFor, kept_for, kept_in}
 use Rattle.update_sessions.specs.Packed.{Came, MeansCall}

@@ -6,7 +6,7 @@ use Rattle.tl_base.specs.declared.packet.PacketFault.{PacketFault}
 use Rattle.tl_base.specs.declared.packet.PacketFault.TheVariants as faults
 use Rattle.tl_base.specs.declared.host.Out.TheVariants as outs
 use Rattle.tl_base.specs.declared.host.Slot.TheVariants as slots
-use Rattle.wire_profile.specs.Places.{ProfileView}
+use Rattle.wire_profile.specs.Indexes.{ProfileView}
 use Rattle.wire_profile.specs.Profiles.{IsProfile}
 use Rattle.outside.specs.Answer.{Answer, done, link_fault_line, write_fault_line}
 use Rattle.outside.specs.Kept.{Leaves}

@@ -3,7 +3,7 @@ use Rattle.std.proofs.Common.{◌≡◌, ℕ, List, Option, Some, None, codes, a
 use Rattle.tl_base.specs.Outside.{View}
 use Rattle.tl_base.specs.declared.host.Slot.TheVariants as slots
 use Rattle.tl_schema.specs.Schemas.{Declared}
-use Rattle.wire_profile.specs.Places.{ProfileView}
+use Rattle.wire_profile.specs.Indexes.{ProfileView}
 use Rattle.outside.specs.Answer.{Answer}
 use Rattle.outside.specs.Kept.{LeavesInput}
 use Rattle.outside.specs.Sound.{HasRoomFor}

@@ -7,7 +7,7 @@ use Rattle.tl_base.specs.declared.host.Out.TheVariants as outs
 use Rattle.tl_base.specs.declared.host.Slot.{Slot}
 use Rattle.tl_base.specs.declared.host.Slot.TheVariants as slots
 use Rattle.tl_schema.specs.Schemas.{Declared}
-use Rattle.wire_profile.specs.Places.{ProfileView}
+use Rattle.wire_profile.specs.Indexes.{ProfileView}
 use Rattle.wire_profile.specs.Faults.{IsAnswer}
 use Rattle.outside.specs.Answer.{Answer, done, memory_line, refused}
 use Rattle.outside.specs.declared.status.Status.{Status}

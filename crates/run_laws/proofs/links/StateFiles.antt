@@ -3,7 +3,7 @@ use Rattle.std.proofs.Common.{ℕ, ◌+◌, ◌<◌, ℤ, List, length, take, sy
 use Rattle.std.proofs.lemmas.Bool.{cases_lt}
 use Rattle.std.proofs.lemmas.List.{take_all, length-take}
 use Rattle.box_client.specs.States.{ClientState}
-use Rattle.wire_profile.specs.Places.{ProfileView}
+use Rattle.wire_profile.specs.Indexes.{ProfileView}
 use Rattle.outside.specs.Answer.{Answer}
 use Rattle.session_commands.specs.Client.{HasClient, TellsNoClient, OfState, begins, loads, no_client, no_saved, not_loaded, too_long, too_many, watches}
 use Rattle.session_commands.specs.declared.state.TheConstants.{MAX_STATE_BYTES}

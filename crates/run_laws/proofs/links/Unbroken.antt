@@ -12,7 +12,7 @@ use Rattle.box_events.specs.declared.replies.Frame.{Frame}
 use Rattle.box_client.specs.Asking.{ticks, wakes, is_one_asking}
 use Rattle.box_client.specs.States.{ClientState}
 use Rattle.box_world.specs.Streams.{begun}
-use Rattle.wire_profile.specs.Places.{ProfileView}
+use Rattle.wire_profile.specs.Indexes.{ProfileView}
 use Rattle.wire_profile.specs.Profiles.{IsProfile}
 use Rattle.outside.specs.Events.{Event, Outside, opened, took, ended, read_failed, created, put, write_failed, listened, connected, accepted, told}
 use Rattle.outside.specs.Laws.{Happened, IsFailure, Throughout}

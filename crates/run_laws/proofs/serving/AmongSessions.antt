@@ -7,7 +7,7 @@ use Rattle.tl_base.specs.Outside.{View}
 use Rattle.box_server.specs.Servers.{ServerState, new_server}
 use Rattle.box_server.specs.declared.entry.Entry.{Entry}
 use Rattle.box_server.specs.Rebuilding.{IsBad, are_right, are_right_from, is_accepted, with_entry}
-use Rattle.wire_profile.specs.Places.{ProfileView}
+use Rattle.wire_profile.specs.Indexes.{ProfileView}
 use Rattle.outside.specs.Jobs.{Job}
 use Rattle.outside.specs.Sound.{Fits}
 use Rattle.outside.specs.declared.status.Status.{Status}

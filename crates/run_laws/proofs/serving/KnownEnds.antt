@@ -4,7 +4,7 @@ use Rattle.std.specs.Prelude.{option_map}
 use Rattle.tl_base.specs.declared.host.Slot.TheVariants.{Link}
 use Rattle.box_events.specs.declared.requests.Numbered.{Numbered}
 use Rattle.box_server.specs.Servers.{ServerState}
-use Rattle.wire_profile.specs.Places.{ProfileView}
+use Rattle.wire_profile.specs.Indexes.{ProfileView}
 use Rattle.fault_lines.specs.Answers.{answer_line}
 use Rattle.fault_lines.specs.Messages.{wire_line}
 use Rattle.fault_lines.specs.Packets.{length_line, ended_line}

@@ -10,7 +10,7 @@ use Rattle.tl_base.specs.declared.host.Out.TheVariants as outs
 use Rattle.tl_base.specs.declared.host.Slot.TheVariants as slots
 use Rattle.tl_schema.specs.Schemas.{Declared}
 use Rattle.box_server.specs.declared.entry.Entry.{Entry}
-use Rattle.wire_profile.specs.Places.{ProfileView}
+use Rattle.wire_profile.specs.Indexes.{ProfileView}
 use Rattle.outside.specs.Answer.{Answer, read_fault_line, refused}
 use Rattle.outside.specs.Kept.{AddsPrefix}
 use Rattle.outside.specs.Telling.{Tells}

@@ -1,7 +1,7 @@
 -- What the parts of `client` do. This project's own.
 use Rattle.std.specs.Prelude.{◌≡◌, ◌⊎◌, ℕ, ℤ, List, Option, Some, None, Result, Ok, Err}
 use Rattle.box_client.specs.States.{ClientState}
-use Rattle.wire_profile.specs.Places.{ProfileView}
+use Rattle.wire_profile.specs.Indexes.{ProfileView}
 use Rattle.outside.specs.Loading.{Refuses}
 use Rattle.outside.specs.declared.status.Status.{Status}
 use Rattle.outside.specs.declared.stop.LoadError.{LoadError}

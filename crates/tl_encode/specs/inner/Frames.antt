@@ -11,9 +11,9 @@ use Rattle.tl_encode.specs.declared.frames.Stack.{Stack}
 abbrev pub frames_of : Stack → List WalkFrame
 frames_of s = reverse (take s.height s.frames)
 
--- there are as many places as a value may have levels
-abbrev pub HasPlaces : Stack → Type 0
-HasPlaces s = (s.height ≤ MAX_LEVELS) × (length s.frames ≡ MAX_LEVELS)
+-- there is a frame for each level that a value may have
+abbrev pub HasLevels : Stack → Type 0
+HasLevels s = (s.height ≤ MAX_LEVELS) × (length s.frames ≡ MAX_LEVELS)
 
 -- each field has its instance and its declaration
 abbrev pub AreCounted : PartInstances → List Value → Type 0

@@ -1,7 +1,7 @@
 -- Which declarations a type reaches, as a graph: its nodes are the declarations, after them the types, one for calls, and one for the type that
 -- is asked for. This project's own.
 use Rattle.std.specs.Prelude.{ℕ, ◌+◌, List, [], ◌∷◌, ◌++◌, length, map, nat_lt, if◌then◌else◌}
-use Rattle.tl_names.specs.Places.{types_of}
+use Rattle.tl_names.specs.Indexes.{types_of}
 use Rattle.tl_schema.specs.Types.{Shape, Shapes, no_shapes, shape, call, vector, boxed, bare}
 use Rattle.tl_schema.specs.Schemas.{Slot, Declared}
 

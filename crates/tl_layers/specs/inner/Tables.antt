@@ -5,7 +5,7 @@ use Rattle.tl_schema.specs.Types.{Shape}
 use Rattle.tl_types.specs.Values.{ValueView, absent, list, node, call, ValueViews, no_values, value, values_of}
 use Rattle.tl_layers.specs.Reached.{Reached}
 use Rattle.tl_layers.specs.Counterparts.{counterpart, image}
-use Rattle.tl_layers.specs.Breaks.{HasBreak, field_place, rank}
+use Rattle.tl_layers.specs.Breaks.{HasBreak, field_index, rank}
 use Rattle.tl_layers.specs.Lifted.{old_fields, new_fields}
 use Rattle.tl_layers.specs.Compared.{LayersView, IsCount}
 use Rattle.tl_layers.specs.LayerLaws.{AreLayers}
@@ -21,7 +21,7 @@ use Rattle.tl_layers.specs.declared.moved.Moved.{Moved}
 -- the counterpart of declaration i, and of each of its fields the index of the old one of its name
 pub record HasMovedTo (p : PairView) (i : ℕ) (m : Moved) : Type 0 where
   pub entry : counterpart p.old p.new i ≡ Some m.entry
-  pub from : m.from.items ≡ map (λ g. field_place (old_fields p.old i) g.name) (new_fields p.old p.new i)
+  pub from : m.from.items ≡ map (λ g. field_index (old_fields p.old i) g.name) (new_fields p.old p.new i)
 
 -- declaration i has no break, and has moved so; or the break is its first
 abbrev pub TellsMoved : PairView → ℕ → Result Moved LayerFault → Type 0

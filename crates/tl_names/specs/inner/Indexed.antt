@@ -3,8 +3,8 @@
 use Rattle.std.specs.Prelude.{◌≡◌, ℕ, ◌<◌, ◌+◌, ◌^◌, List, is_some, length, bytes_eq, slice_get, Option, None, Some, true, false, not, ◌||◌, ◌==◌, if◌then◌else◌}
 use Rattle.tl_program.specs.Program.{DeclText}
 use Rattle.tl_names.specs.Constructors.{IsFamily, var_counts}
-use Rattle.tl_names.specs.NamePlaces.{Notes, place_in}
-use Rattle.tl_names.specs.Places.{types_of}
+use Rattle.tl_names.specs.NameIndexes.{Notes, index_among}
+use Rattle.tl_names.specs.Indexes.{types_of}
 use Rattle.tl_names.specs.What.{constructor_named, type_named}
 use Rattle.tl_names.specs.declared.index.Constructors.{Constructors}
 
@@ -15,20 +15,20 @@ at_number families None = None
 
 -- the constructors that are kept of a type
 abbrev pub at_type : List (List ℕ × ℕ) → List Constructors → List ℕ → Option Constructors
-at_type types families type = at_number families (place_in types type)
+at_type types families type = at_number families (index_among types type)
 
 -- each type's number has constructors, and no other type has it
 pub record AreNumbered (types : List (List ℕ × ℕ)) (families : List Constructors) : Type 0 where
-  pub within : (type : List ℕ) (number : ℕ) → place_in types type ≡ Some number → number < length families
-  pub apart : (type other : List ℕ) (number : ℕ) → place_in types type ≡ Some number → place_in types other ≡ Some number → type ≡ other
+  pub within : (type : List ℕ) (number : ℕ) → index_among types type ≡ Some number → number < length families
+  pub apart : (type other : List ℕ) (number : ℕ) → index_among types type ≡ Some number → index_among types other ≡ Some number → type ≡ other
 
 -- each name has the index of its first constructor
 abbrev pub IndexesNames : List DeclText → List (List ℕ × ℕ) → Type 0
-IndexesNames ds names = (name : List ℕ) → place_in names name ≡ constructor_named ds name
+IndexesNames ds names = (name : List ℕ) → index_among names name ≡ constructor_named ds name
 
 -- each type has its number, and at that number its constructors stand
 pub record IndexesTypes (ds : List DeclText) (types : List (List ℕ × ℕ)) (families : List Constructors) : Type 0 where
-  pub numbers : (type : List ℕ) → place_in types type ≡ type_named ds type
+  pub numbers : (type : List ℕ) → index_among types type ≡ type_named ds type
   pub count : length families ≡ length (types_of ds)
   pub made : (type : List ℕ) → IsFamily ds type (at_type types families type)
 
@@ -47,5 +47,5 @@ one_more at vars (Some c) = record { first = c.first; vars = c.vars; only = fals
 -- the type has what f makes of what it had, with the next number if it had none, and each other type what it had
 pub record Changes (old_types : List (List ℕ × ℕ)) (old : List Constructors) (new_types : List (List ℕ × ℕ)) (new : List Constructors) (name : List ℕ) (f : Option Constructors → Constructors) : Type 0 where
   pub numbers : Notes old_types new_types name (length old)
-  pub count : length new ≡ (if is_some (place_in old_types name) then length old else length old + 1)
+  pub count : length new ≡ (if is_some (index_among old_types name) then length old else length old + 1)
   pub made : (type : List ℕ) → at_type new_types new type ≡ (if bytes_eq type name then Some (f (at_type old_types old type)) else at_type old_types old type)

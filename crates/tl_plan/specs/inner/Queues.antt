@@ -12,16 +12,16 @@ abbrev pub found_in : List ℕ → ℕ → Option ℕ
 found_in [] n = None
 found_in (m ∷ ms) n = if n == m then Some zero else option_map suc (found_in ms n)
 
-abbrev pub place_of : List (ℕ × ℕ) → ℕ → Option ℕ
-place_of places n = lookup (λ k. is_eq (nat_cmp n k)) places
+abbrev pub noted_at : List (ℕ × ℕ) → ℕ → Option ℕ
+noted_at indexes n = lookup (λ k. is_eq (nat_cmp n k)) indexes
 
-pub record IsQueue (ns : List ℕ) (places : List (ℕ × ℕ)) : Type 0 where
+pub record IsQueue (ns : List ℕ) (indexes : List (ℕ × ℕ)) : Type 0 where
   pub few : length ns ≤ MAX_INSTANCES
-  pub noted : (n : ℕ) → place_of places n ≡ found_in ns n
+  pub noted : (n : ℕ) → noted_at indexes n ≡ found_in ns n
 
--- the number has this place if it had none, and each other number has the place that it had
+-- the number has this index if it had none, and each other number has the index that it had
 abbrev pub KeepsFirst : List (ℕ × ℕ) → List (ℕ × ℕ) → ℕ → ℕ → Type 0
-KeepsFirst old new node place = (n : ℕ) → place_of new n ≡ (if n == node && is_none (place_of old node) then Some place else place_of old n)
+KeepsFirst old new node index = (n : ℕ) → noted_at new n ≡ (if n == node && is_none (noted_at old node) then Some index else noted_at old n)
 
 -- the type of so many levels, which declaration decl names, came to the end, or is refused
 abbrev pub Adds : List ℕ → List ℕ → ℕ → ℕ → ℕ → Result ℕ PlanFault → Type 0

@@ -16,7 +16,7 @@ ChecksBy ds cs (Err check.Memory) = Unit {0}
 abbrev pub PassesChecks : List DeclText → Result (Unit {0}) CheckFault → Type 0
 PassesChecks ds result = ChecksBy ds causes result
 
--- what comes of a place that was looked for: the first declaration with the cause, if there is one
+-- what comes of an index that was looked for: the first declaration with the cause, if there is one
 abbrev pub Found : Option ℕ → CheckCause → Result (Unit {0}) CheckFault → Type 0
 Found (Some k) cause result = result ≡ Err (check.Refused k cause)
 Found None cause result = result ≡ Ok tt

@@ -1,16 +1,16 @@
--- What is kept of the declarations so far: their entries, and the places of their names. This project's own.
+-- What is kept of the declarations so far: their entries, and the indexes of their names. This project's own.
 use Rattle.std.specs.Prelude.{◌≡◌, ℕ, ◌<◌, ◌^◌, List, [], ◌∷◌, ◌++◌, length, map, Bool, true, false, not, slice_get, Some}
 use Rattle.tl_program.specs.Program.{DeclText}
 use Rattle.tl_names.specs.Writing.{At, is_function}
 use Rattle.tl_schema.specs.Schemas.{Declaration}
 use Rattle.tl_schema.specs.Seen.{declaration}
 use Rattle.tl_schema.specs.Meanings.{IsEntry}
-use Rattle.tl_names.specs.NamePlaces.{Notes}
-use Rattle.tl_schema.specs.inner.SchemaParts.{ArePlaces}
+use Rattle.tl_names.specs.NameIndexes.{Notes}
+use Rattle.tl_schema.specs.inner.SchemaParts.{AreIndexes}
 use Rattle.tl_schema.specs.declared.checks.Known.{Known}
 use Rattle.tl_schema.specs.declared.checks.Entered.{Entered}
 
--- the places of functions, or those of constructors
+-- the indexes of functions, or those of constructors
 abbrev pub among : Bool → Known → List (List ℕ × ℕ)
 among true known = known.functions
 among false known = known.constructors
@@ -28,12 +28,12 @@ pub record EntersOne (ds : List DeclText) (old new : Entered) (d : DeclText) (at
   pub fits : entry.number < 2 ^ 32
   pub noted : NotesOne old.known new.known d at
 
--- the entries are those of the first declarations, as many as there are, and the places those of their names
+-- the entries are those of the first declarations, as many as there are, and the indexes those of their names
 pub record Enters (ds : List DeclText) (at : ℕ) (es : List Declaration) (known : Known) : Type 0 where
   pub count : length es ≡ at
   pub entries : (k : ℕ) (d : DeclText) (e : Declaration) → At ds k d → slice_get es k ≡ Some e → IsEntry ds d e
   pub fits : (k : ℕ) (e : Declaration) → slice_get es k ≡ Some e → e.number < 2 ^ 32
-  pub places : (function : Bool) → ArePlaces es function (among function known)
+  pub indexes : (function : Bool) → AreIndexes es function (among function known)
 
 -- all declarations have their entries
 abbrev pub AreEntered : List DeclText → Entered → Type 0

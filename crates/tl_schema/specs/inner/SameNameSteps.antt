@@ -3,11 +3,11 @@ use Rattle.std.specs.Prelude.{◌≡◌, ℕ, List, Bool, true, false, not, ◌|
 use Rattle.tl_program.specs.Trees.{Tree, Trees, named}
 use Rattle.tl_program.specs.Program.{DeclText}
 use Rattle.tl_names.specs.Writing.{is_variable}
-use Rattle.tl_names.specs.NamePlaces.{place_in}
+use Rattle.tl_names.specs.NameIndexes.{index_among}
 use Rattle.tl_schema.specs.declared.same_name.Known.{Known}
 
 abbrev pub is_noted : List (List ℕ × ℕ) → List ℕ → Bool
-is_noted names name = is_some (place_in names name)
+is_noted names name = is_some (index_among names name)
 
 -- the name is noted, and each other that was
 abbrev pub NotesName : List (List ℕ × ℕ) → List (List ℕ × ℕ) → List ℕ → Type 0

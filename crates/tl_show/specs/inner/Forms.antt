@@ -9,7 +9,7 @@ use Rattle.tl_types.specs.Values.{ValueView, int, long, nat, opaque, text, truth
 use Rattle.tl_types.specs.Parts.{arguments_of, is_absent, item_of}
 use Rattle.tl_show.specs.Shown.{hex_data, text_data, name_text, shown, named, with_fields}
 
--- what stands at a key: the name of the declaration, or the value at this place, of this type
+-- what stands at a key: the name of the declaration, or the value at this index, of this type
 pub data PartView : Type 0 where
   name : PartView
   field : ℕ → Shape → PartView
@@ -24,7 +24,7 @@ abbrev pub form_in : Option FormView → FormView
 form_in None = record { name = []; keys = (codes "_", PartView.name) ∷ [] }
 form_in (Some f) = f
 
--- the value at a place, of a type, unless it isn't there
+-- the value at an index, of a type, unless it isn't there
 abbrev pub Reads : Type 0
 Reads = ℕ → Shape → Option Data
 
@@ -76,7 +76,7 @@ abbrev mutual
 
 -- ---- the forms of a schema
 
--- the value at a place, as it is shown
+-- the value at an index, as it is shown
 abbrev pub shown_at : List Declaration → ValueViews → Reads
 shown_at ds no_values i T = None
 shown_at ds (value v vs) zero T = unless_missing (is_absent v) (shown ds T v)

@@ -9,7 +9,7 @@ use Rattle.box_server.specs.Servers.{ServerState}
 use Rattle.box_server.specs.declared.entry.Entry.{Entry}
 use Rattle.box_server.specs.Keeping.{with_more}
 use Rattle.box_server.specs.Storing.{StoredView}
-use Rattle.wire_profile.specs.Places.{ProfileView}
+use Rattle.wire_profile.specs.Indexes.{ProfileView}
 use Rattle.box_wire.specs.Kinds.{calls}
 use Rattle.box_wire.specs.Framing.{WireRefused}
 use Rattle.update_sessions.specs.declared.answering.CallAnswer.{CallAnswer}

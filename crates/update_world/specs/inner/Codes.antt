@@ -4,7 +4,7 @@ use Rattle.std.specs.Coded.{Coded, code_by, coded×, coded_ℕ, coded_list, code
 use Rattle.box_server.specs.Servers.{ServerState}
 use Rattle.box_server.specs.inner.ServerCodes.{server_code}
 use Rattle.box_client.specs.States.{ClientState, client_code}
-use Rattle.wire_profile.specs.Places.{ProfileView}
+use Rattle.wire_profile.specs.Indexes.{ProfileView}
 use Rattle.wire_profile.specs.inner.ProfileCodes.{profile_code}
 use Rattle.update_world.specs.declared.fault.StepFault.{StepFault}
 use Rattle.update_world.specs.declared.fault.StepFault.TheVariants.{NoClient, NoPacket, WrongEnd, PoolFull, Memory}

@@ -2,7 +2,7 @@
 use Rattle.std.specs.Prelude.{◌≡◌, ◌≤◌, List, length, Option, Some, None, Result, Ok, Err}
 use Rattle.box_events.specs.declared.steps.Step.{Step}
 use Rattle.box_server.specs.Sound.{IsSound}
-use Rattle.wire_profile.specs.Places.{ProfileView}
+use Rattle.wire_profile.specs.Indexes.{ProfileView}
 use Rattle.wire_profile.specs.Profiles.{IsProfile}
 use Rattle.box_world.specs.Worlds.{World}
 use Rattle.update_world.specs.declared.fault.StepFault.{StepFault}

@@ -2,7 +2,7 @@
 use Rattle.std.specs.Prelude.{◌≡◌, ℕ, ◌≤◌, List, length, Bool, true, false, eqb, Some, slice_get, Result, Ok, Err}
 use Rattle.box_events.specs.declared.replies.Frame.{Frame}
 use Rattle.box_events.specs.declared.requests.Numbered.{Numbered}
-use Rattle.wire_profile.specs.Places.{ProfileView}
+use Rattle.wire_profile.specs.Indexes.{ProfileView}
 use Rattle.wire_values.specs.Calls.{call_tree}
 use Rattle.wire_values.specs.Frames.{frame_tree}
 use Rattle.box_wire.specs.Framing.{Framed}

@@ -15,6 +15,6 @@ loop-pages-preserved c =
       fresh = subst AreFresh (sym items) (fresh_push c.loop-pages.spares.items page i.fresh empty c.in_ok-reserve-3.ensures.ok);
       few = omega (arith, c.loop-pages-test.true, c.len-in-loop-pages.ensures, c.loop-pages.spares.ok.0, c.push_reserved.ensures.len);
       room = omega (arith, i.room, c.push_reserved.ensures.capacity);
-      places = i.places;
+      slots = i.slots;
       more = omega (arith, i.more, ap length items, length_push c.loop-pages.spares.items page);
     }

@@ -7,7 +7,7 @@ invariant-loop-pages l = record {
   fresh : AreFresh l.spares.items;
   few : vec_len l.spares ≤ l.number;
   room : l.number ≤ vec_capacity l.spares;
-  places : vec_len l.pages + l.number ≤ vec_capacity l.pages;
+  slots : vec_len l.pages + l.number ≤ vec_capacity l.pages;
   more : length l.fn.spares.items ≤ length l.spares.items;
 }
 

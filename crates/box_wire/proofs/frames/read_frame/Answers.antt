@@ -1,7 +1,7 @@
 use Rattle.std.proofs.Common.{refl, Ok, Err}
 use Rattle.std.proofs.lemmas.Result.{err_from_is_err_and}
 use Rattle.tl_types.specs.Seen.{view}
-use Rattle.wire_profile.specs.Places.{cell_shape}
+use Rattle.wire_profile.specs.Indexes.{cell_shape}
 use Rattle.wire_values.specs.CarriedFrames.{IsFrame}
 use Rattle.wire_values.specs.Frames.{frame_in, frame_tree}
 use Rattle.box_wire.specs.Kinds.{frames}

@@ -1,7 +1,7 @@
 use Rattle.std.proofs.Common.{◌∙◌, ℕ, List, ap, refl, sym, subst}
 use Rattle.tl_types.specs.Seen.{view}
 use Rattle.tl_types.specs.Values.{ValueView}
-use Rattle.wire_profile.specs.Places.{cell_shape}
+use Rattle.wire_profile.specs.Indexes.{cell_shape}
 use Rattle.wire_profile.specs.SpelledForms.{placed}
 use Rattle.wire_values.specs.Steps.{step_tree}
 use Rattle.box_wire.specs.Kinds.{steps}
@@ -13,6 +13,6 @@ use Rattle.box_wire.proofs.steps.spell_step.Goals as goal
 pub returns : goal.returns
 returns c =
     let formed = step_formed c.args.profile.now c.plan.ensures.sound in
-    let is = of_root c.args.profile.now c.plan.result.now c.plan.ensures.plan 1 (cell_shape c.args.profile.now steps.cell) refl formed (λ S T. IsSpelling S T (view c.put_places.new.value) c.in_ok-bytes.bytes.items) c.in_ok-bytes.ensures in
-    let own = subst (λ (u : ValueView). IsSpelling c.args.profile.now.schema (cell_shape c.args.profile.now steps.cell) u c.in_ok-bytes.bytes.items) (c.put_places.ensures ∙ ap (placed c.args.profile.now) c.in_ok-value.ensures) is in
+    let is = of_root c.args.profile.now c.plan.result.now c.plan.ensures.plan 1 (cell_shape c.args.profile.now steps.cell) refl formed (λ S T. IsSpelling S T (view c.put_indexes.new.value) c.in_ok-bytes.bytes.items) c.in_ok-bytes.ensures in
+    let own = subst (λ (u : ValueView). IsSpelling c.args.profile.now.schema (cell_shape c.args.profile.now steps.cell) u c.in_ok-bytes.bytes.items) (c.put_indexes.ensures ∙ ap (placed c.args.profile.now) c.in_ok-value.ensures) is in
     subst (λ (b : List ℕ). IsSpelling c.args.profile.now.schema (cell_shape c.args.profile.now steps.cell) (placed c.args.profile.now (step_tree c.args.step.now)) b) (sym c.from_vec.ensures) own

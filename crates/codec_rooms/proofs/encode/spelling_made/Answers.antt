@@ -23,5 +23,5 @@ pub returns-in-Err : goal.returns-in-Err
 returns-in-Err c text is =
     let S = c.args.plan.now.schema in
     let T = shape c.args.of.now in
-    refused_made (OfJson S T text) (TellsJson S T text) c.fit_unmade.result (refused_json S T text)
-    (unfit S T text (view c.args.value.now) c.in-Err.fault c.fit_unmade.result is (c.in-Err.ensures.fits T c.requires.instance) c.fit_unmade.ensures)
+    refused_made (OfJson S T text) (TellsJson S T text) c.fit_error.result (refused_json S T text)
+    (unfit S T text (view c.args.value.now) c.in-Err.fault c.fit_error.result is (c.in-Err.ensures.fits T c.requires.instance) c.fit_error.ensures)

@@ -20,5 +20,5 @@ returns-in-Ok c =
 
 pub returns-in-Err : goal.returns-in-Err
 returns-in-Err c =
-    json_as c.args.profile.now c.schema-schema.result.now (shape ref.Call) c.args.text.now (Err c.fit_unmade.result) c.schema-schema.ensures.schema called
-    (unfit c.schema-schema.result.now (shape ref.Call) c.args.text.now (view c.in_ok-value.value) c.in-Err.fault c.fit_unmade.result c.in_ok-value.ensures c.in-Err.ensures.fits c.fit_unmade.ensures)
+    json_as c.args.profile.now c.schema-schema.result.now (shape ref.Call) c.args.text.now (Err c.fit_error.result) c.schema-schema.ensures.schema called
+    (unfit c.schema-schema.result.now (shape ref.Call) c.args.text.now (view c.in_ok-value.value) c.in-Err.fault c.fit_error.result c.in_ok-value.ensures c.in-Err.ensures.fits c.fit_error.ensures)

@@ -9,4 +9,4 @@ returns-in-Ok c = let spells = c.in-Ok.ensures.spells c.requires.formed in (view
 
 pub returns : goal.returns
 returns c =
-    unfit c.args.schema.now (shape c.args.of.now) c.args.text.now (view c.in_ok-value.value) c.in-Err.fault c.fit_unmade.result c.in_ok-value.ensures (never_fits _ c.in-Err.fault c.in-Err.ensures.fits) c.fit_unmade.ensures
+    unfit c.args.schema.now (shape c.args.of.now) c.args.text.now (view c.in_ok-value.value) c.in-Err.fault c.fit_error.result c.in_ok-value.ensures (never_fits _ c.in-Err.fault c.in-Err.ensures.fits) c.fit_error.ensures

@@ -8,7 +8,7 @@ use Rattle.tl_encode.proofs.encoder.bytes_of.Goals as goal
 
 pub loop-next-init : goal.loop-next-init
 loop-next-init c = (
-  c.new-stack.ensures.places,
+  c.new-stack.ensures.levels,
   subst EachIsCounted (sym c.new-stack.ensures.frames) tt,
   starts c.args.plan.now c.args.of (view c.args.value.now) c.new-bytes.result.items _ (frames_of c.new-stack.result) c.requires c.new-bytes.ensures.items refl refl refl c.new-stack.ensures.frames,
 )
@@ -32,7 +32,7 @@ loop-next-preserved c =
     let s = c.instance.ensures.shows in
     let walks = subst (λ (o : Option Part). Walks p c.args.of (view c.args.value.now) c.loop-next.bytes.items o fs) c.in-Some.is c.loop-next.invariant.2 in
     let more = start_told p x.of s.0 s.1 c.instance.result.now s.2 c.schema-in-Some.result.now (view x.value.now) c.schema-in-Some.ensures in (
-      c.step_over-next.ensures.places,
+      c.step_over-next.ensures.levels,
       c.step_over-next.ensures.counted,
       goes_on p c.args.of (view c.args.value.now) c.loop-next.bytes.items _ c.put_start.new.out.items x c.step_over-next.result fs (frames_of c.step_over-next.new.stack) walks (c.step_over-next.ensures.steps walks.frames) more c.in_ok-put_start.ensures,
     )

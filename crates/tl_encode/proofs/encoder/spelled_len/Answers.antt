@@ -8,7 +8,7 @@ use Rattle.tl_encode.proofs.encoder.spelled_len.Goals as goal
 
 pub loop-next-init : goal.loop-next-init
 loop-next-init c = (
-  c.new-stack.ensures.places,
+  c.new-stack.ensures.levels,
   subst EachIsCounted (sym c.new-stack.ensures.frames) tt,
   c.root-of.ensures.within,
   ([], starts c.args.plan.now c.root-of.result (view c.args.value.now) [] _ (frames_of c.new-stack.result) c.root-of.ensures.within refl refl refl refl c.new-stack.ensures.frames, refl),
@@ -34,7 +34,7 @@ loop-next-preserved c =
     let walks = subst (λ (o : Option Part). Walks p c.root-of.result (view c.args.value.now) put.0 o fs) c.in-Some.is put.1 in
     let more = start_told p x.of s.0 s.1 c.instance.result.now s.2 c.schema.result.now (view x.value.now) c.schema.ensures in
     let all = goes_on p c.root-of.result (view c.args.value.now) put.0 _ _ x c.step_over-next.result fs (frames_of c.step_over-next.new.stack) walks (c.step_over-next.ensures.steps walks.frames) more refl in
-    (c.step_over-next.ensures.places, c.step_over-next.ensures.counted, c.root-of.ensures.within, (_, all, one_more c.loop-next.len c.start_len.result c.saturating_add-len.result put.0 _ c.saturating_add-len.ensures put.2 c.start_len.ensures))
+    (c.step_over-next.ensures.levels, c.step_over-next.ensures.counted, c.root-of.ensures.within, (_, all, one_more c.loop-next.len c.start_len.result c.saturating_add-len.result put.0 _ c.saturating_add-len.ensures put.2 c.start_len.ensures))
 
 pub returns : goal.returns
 returns c = λ T spelled instance spells.

@@ -1,6 +1,6 @@
 use Rattle.std.proofs.Common.{◌≡◌, ◌∙◌, ap, length, refl, slice_get, Some, subst, sym, arith}
 use Rattle.std.proofs.lemmas.Option.{slice_get_read}
-use Rattle.tl_names.specs.NamePlaces.{Notes}
+use Rattle.tl_names.specs.NameIndexes.{Notes}
 use Rattle.tl_names.specs.inner.Indexed.{one_more}
 use Rattle.tl_names.proofs.ChangedTypes.{changes_known, changes_new}
 use Rattle.tl_names.proofs.index.add_type.Goals as goal

@@ -2,7 +2,7 @@ use Rattle.std.proofs.Common.{◌≡◌, length, subst, arith}
 use Rattle.std.proofs.lemmas.List.{length-map}
 use Rattle.tl_program.specs.Program.{decl_text, program_text}
 use Rattle.tl_names.proofs.Maps.{slice_get_item}
-use Rattle.tl_schema.proofs.NumberedPlaces.{AreNumbersSoFar, are_numbers, line_more, no_numbers, number_more}
+use Rattle.tl_schema.proofs.NumberedIndexes.{AreNumbersSoFar, are_numbers, line_more, no_numbers, number_more}
 use Rattle.tl_schema.proofs.by_number.numbers_of.Goals as goal
 use Rattle.tl_schema.proofs.by_number.numbers_of.Goals.{then-not-decl+in_ok-insert, else-not-decl}
 

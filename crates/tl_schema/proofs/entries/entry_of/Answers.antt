@@ -1,7 +1,7 @@
 use Rattle.std.proofs.Common.{◌≡◌, ◌∙◌, ap, arith, length, map}
 use Rattle.std.specs.Option.{unwrap_or}
 use Rattle.tl_program.specs.Program.{decl_text}
-use Rattle.tl_names.specs.Places.{types_of}
+use Rattle.tl_names.specs.Indexes.{types_of}
 use Rattle.tl_names.specs.Writing.{own_type}
 use Rattle.tl_names.specs.MeantDecls.{MeantDeclView}
 use Rattle.tl_schema.specs.Seen.{shape, slot}

@@ -137,7 +137,7 @@ fields_in-fields-preserved t c =
     let r = c.closed_in.new.tokens in
     let less = read_key-shorter l.tokens (Some k) s named in
     let lesser = done.shorter in
-    let found = found_at c.args.schema.now.decls (map shape c.args.applied.args.now) k done.value.0 no_members c.args.applied.fields.now c.in-Some-place_of.i c.index-applied-i.result c.in_ok-value.value c.index-applied-i.is c.in-Some-place_of.ensures done.value.2 in
+    let found = found_at c.args.schema.now.decls (map shape c.args.applied.args.now) k done.value.0 no_members c.args.applied.fields.now c.in-Some-field_at.i c.index-applied-i.result c.in_ok-value.value c.index-applied-i.is c.in-Some-field_at.ensures done.value.2 in
     record {
       goes = λ name n enough.
           let before = l.invariant.goes name n enough in (
@@ -145,7 +145,7 @@ fields_in-fields-preserved t c =
             put k done.value.0 before.1,
             omega (arith, before.2, less, lesser),
             before.3 ∙ member_read p before.1 before.0 k l.tokens s r done.value.0 (omega (arith, before.2, less)) named done.value.1,
-            one_key c.args.schema.now.decls (map shape c.args.applied.args.now) k done.value.0 before.1 name c.args.applied.fields.now l.values.items c.in-Some-place_of.i c.in_ok-value.value c.requires found before.4,
+            one_key c.args.schema.now.decls (map shape c.args.applied.args.now) k done.value.0 before.1 name c.args.applied.fields.now l.values.items c.in-Some-field_at.i c.in_ok-value.value c.requires found before.4,
           );
       shorter = omega (arith, l.invariant.shorter, less, lesser);
       long = search rules;

@@ -10,7 +10,7 @@ use Rattle.tl_show.specs.inner.FormViews.{form_view}
 use Rattle.tl_show.specs.inner.Scopes.{shapes_in}
 use Rattle.tl_show.proofs.Lines.{empty_record, first_item, first_member, last_item, last_member, list_same, next_item, next_member, nothing_written, record_written, text_same}
 use Rattle.tl_show.proofs.Putting.{same_put}
-use Rattle.tl_show.proofs.FieldsByPlace.{call_written, field_past, field_there, form_past, form_there, node_written}
+use Rattle.tl_show.proofs.FieldsByIndex.{call_written, field_past, field_there, form_past, form_there, node_written}
 use Rattle.tl_types.specs.Parts.{arguments_of, item_of}
 use Rattle.tl_show.specs.Shown.{is_string}
 use Rattle.tl_show.proofs.Scopes.{settled_arguments, settled_item, settled_string, shapes-made}

@@ -3,4 +3,4 @@ use Rattle.wire_profile.proofs.FormLists.{forms_up}
 use Rattle.wire_profile.proofs.tables.table_of.Given as goal
 
 abbrev pub invariant-loop-i : goal.invariant-loop-i
-invariant-loop-i l = l.table.items ≡ forms_up l.layout.places l.i
+invariant-loop-i l = l.table.items ≡ forms_up l.layout.indexes l.i

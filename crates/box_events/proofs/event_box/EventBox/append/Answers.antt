@@ -41,7 +41,7 @@ invariant_of-self-2 c =
       chained = chained_last c.self.inside.first pages c.make_room.new.last c.push.new.self (r.chained c.self.inside.first i.chained) (ap (λ (b : BoxView). b.first) c.push.ensures);
       fresh = r.fresh;
       room = omega (arith, r.room, r.ok, ap (λ (b : BoxView). b.spare) c.push.ensures, c.saturating_sub-self-inside.ensures);
-      places = r.places;
+      slots = r.slots;
     }
 
 pub returns-clause-answer : goal.returns-clause-answer

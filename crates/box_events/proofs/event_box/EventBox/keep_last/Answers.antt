@@ -30,7 +30,7 @@ invariant_of-self c =
     left_box c.self.inside
     (record { pages = c.drop_first-self-inside.new.pages; last = c.drop_first-self-inside.new.last; spares = c.self.inside.spares; first = c.drop_first-self-inside.result; end = c.self.inside.end; len = c.args.n; spare = c.self.inside.spare })
     c.args.n i c.if-self-n.false left refl refl i.fresh (omega (arith, i.room, c.drop_first-self-inside.ensures.spare))
-    (omega (arith, i.places, c.drop_first-self-inside.ensures.len, c.drop_first-self-inside.ensures.capacity, c.drop-drain.ensures.capacity, c.drain.ensures.capacity, c.drop-drain.new.self.0.ok.0, c.self.inside.pages.ok.0, ap length kept, length-drop whole pages))
+    (omega (arith, i.slots, c.drop_first-self-inside.ensures.len, c.drop_first-self-inside.ensures.capacity, c.drop-drain.ensures.capacity, c.drain.ensures.capacity, c.drop-drain.new.self.0.ok.0, c.self.inside.pages.ok.0, ap length kept, length-drop whole pages))
 
 pub returns : goal.returns
 returns c =

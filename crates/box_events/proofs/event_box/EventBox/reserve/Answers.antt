@@ -11,7 +11,7 @@ invariant_of-self c =
     let r = c.in_err-reserve_events.ensures in
     let old = c.self.inside in
     stays_box old (record { pages = c.reserve_events.new.pages; last = c.reserve_events.new.last; spares = c.reserve_events.new.spares; first = old.first; end = old.end; len = old.len; spare = old.spare }) i
-    refl refl refl r.pages r.first r.events r.fresh (omega (arith, i.room, r.spare, r.more)) r.places
+    refl refl refl r.pages r.first r.events r.fresh (omega (arith, i.room, r.spare, r.more)) r.slots
 
 pub returns-in_err-reserve_events-clause-events : goal.returns-in_err-reserve_events-clause-events
 returns-in_err-reserve_events-clause-events c =
@@ -35,7 +35,7 @@ invariant_of-self-2 c =
     let r = c.in_ok-reserve_events.ensures in
     let old = c.self.inside in
     stays_box old (record { pages = c.reserve_events.new.pages; last = c.reserve_events.new.last; spares = c.reserve_events.new.spares; first = old.first; end = old.end; len = old.len; spare = c.args.more }) i
-    refl refl refl r.pages r.first r.events r.fresh r.ok r.places
+    refl refl refl r.pages r.first r.events r.fresh r.ok r.slots
 
 pub returns-clause-events : goal.returns-clause-events
 returns-clause-events c =

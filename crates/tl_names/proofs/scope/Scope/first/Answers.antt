@@ -1,5 +1,5 @@
 use Rattle.std.proofs.Common.{◌∙◌}
-use Rattle.tl_names.proofs.FirstPlaces.{first_found, no_first_found}
+use Rattle.tl_names.proofs.FirstIndexes.{first_found, no_first_found}
 use Rattle.tl_names.proofs.scope.Scope.first.Goals as goal
 
 pub returns-in-Some : goal.returns-in-Some

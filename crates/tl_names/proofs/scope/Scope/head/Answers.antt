@@ -1,6 +1,6 @@
 use Rattle.std.proofs.Common.{◌∙◌, sym, bytes_eq}
-use Rattle.tl_names.specs.Places.{types_of}
-use Rattle.tl_names.proofs.TestedPlaces.{position_some, position_none}
+use Rattle.tl_names.specs.Indexes.{types_of}
+use Rattle.tl_names.proofs.TestedIndexes.{position_some, position_none}
 use Rattle.tl_names.proofs.scope.Scope.head.Goals as goal
 
 pub returns-in-Some : goal.returns-in-Some

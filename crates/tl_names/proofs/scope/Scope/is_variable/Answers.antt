@@ -1,7 +1,7 @@
 use Rattle.std.proofs.Common.{◌∙◌, ap, bytes_eq}
 use Rattle.std.specs.Option.{is_some}
 use Rattle.tl_program.specs.Program.{decl_text}
-use Rattle.tl_names.proofs.TestedPlaces.{position_tells}
+use Rattle.tl_names.proofs.TestedIndexes.{position_tells}
 use Rattle.tl_names.proofs.scope.Scope.is_variable.Goals as goal
 
 pub returns : goal.returns

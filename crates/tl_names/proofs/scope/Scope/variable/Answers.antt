@@ -1,6 +1,6 @@
 use Rattle.std.proofs.Common.{◌∙◌, sym, arith, bytes_eq}
 use Rattle.tl_program.specs.Program.{decl_text}
-use Rattle.tl_names.proofs.TestedPlaces.{position_some, position_none}
+use Rattle.tl_names.proofs.TestedIndexes.{position_some, position_none}
 use Rattle.tl_names.proofs.scope.Scope.variable.Goals as goal
 
 pub overflow_cast-result : goal.overflow_cast-result

@@ -1,7 +1,7 @@
 use Rattle.std.proofs.Common.{◌∙◌, ap, sym, add-one}
 use Rattle.std.specs.Prelude.{slice_get}
 use Rattle.tl_schema.specs.Seen.{declaration}
-use Rattle.wire_profile.specs.Places.{ProfileView}
+use Rattle.wire_profile.specs.Indexes.{ProfileView}
 use Rattle.wire_profile.proofs.Differences.{further_at, further_not}
 use Rattle.wire_profile.proofs.layout.Layout.check_others.Goals as goal
 

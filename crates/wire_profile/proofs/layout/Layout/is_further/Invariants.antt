@@ -1,7 +1,7 @@
 use Rattle.std.proofs.Common.{◌≡◌}
-use Rattle.wire_profile.specs.Places.{form_at}
+use Rattle.wire_profile.specs.Indexes.{form_at}
 use Rattle.wire_profile.proofs.Differences.{heads_from}
 use Rattle.wire_profile.proofs.layout.Layout.is_further.Given as goal
 
 abbrev pub invariant-loop-h : goal.invariant-loop-h
-invariant-loop-h l = heads_from l.self.heads l.head (form_at l.self.places l.i) 0 ≡ heads_from l.self.heads l.head (form_at l.self.places l.i) l.h
+invariant-loop-h l = heads_from l.self.heads l.head (form_at l.self.indexes l.i) 0 ≡ heads_from l.self.heads l.head (form_at l.self.indexes l.i) l.h
