@@ -4,17 +4,13 @@ use native.Mathlib.Numerals.{add-one}
 use Rattle.channel_box.specs.States.{ChannelState, ids_of, AreDistinct, has_id, first}
 use Rattle.box_client.proofs.Savings.{here}
 use Rattle.report_lines.proofs.Puts.{next}
+use Rattle.box_client.proofs.Savings.{get_again}
 
 drop_here : (cs : List ChannelState) (i : ℕ) (c : ChannelState) → take (suc i) cs ≡ take i cs ++ c ∷ [] → drop i cs ≡ c ∷ drop (suc i) cs
 drop_here [] zero c e = absurd cc
 drop_here [] (suc i) c e = absurd cc
 drop_here (x ∷ xs) zero c e = cc
 drop_here (x ∷ xs) (suc i) c e = drop_here xs i c cc
-
-get_again : (ks : List ℤ) (i : ℕ) (d : ℤ) → i < length ks → get_or ks i d ≡ get_or ks i (get_or ks i d)
-get_again [] i d lt = absurd (omega (arith, lt))
-get_again (k ∷ ks) zero d lt = refl
-get_again (k ∷ ks) (suc i) d lt = get_again ks i d (omega (arith, lt))
 
 -- a text of channels is that of each in turn
 abbrev pub IsInTurn : (List ChannelState → List ℕ) → (ℤ → Option ChannelState → List ℕ) → Type 0

@@ -1,22 +1,14 @@
 -- The type that a word means is formed.
-use Rattle.std.proofs.Common.{ℕ, ◌<◌, List, true≢false, sym, subst}
-use Rattle.tl_program.specs.Trees.{Tree, named, percent, any_call}
+use Rattle.std.proofs.Common.{ℕ, List, sym, subst}
+use Rattle.tl_program.specs.Trees.{Tree}
 use Rattle.tl_names.specs.Parts.{IsPart}
-use Rattle.tl_names.specs.Indexes.{variable_of}
-use Rattle.tl_names.proofs.HeadNames.{type_name}
-use Rattle.tl_schema.specs.UnknownVariable.{NamesVariable}
 use Rattle.tl_schema.specs.Types.{Shape}
 use Rattle.tl_schema.specs.Schemas.{Declared}
 use Rattle.tl_schema.specs.CheckedPrograms.{IsSchema}
 use Rattle.tl_schema.specs.AskedTypes.{asker, type_causes, PassesTypeBy, IsTypeText}
 use Rattle.tl_schema.specs.Formed.{IsFormed}
 use Rattle.tl_schema.proofs.FormedTypes.{IsFine, type_formed}
-
--- who asks has no variables
-no_variable : (u : Tree) → NamesVariable asker u → variable_of asker (type_name u) < 0
-no_variable (named name args) is = absurd (true≢false (sym is))
-no_variable (percent t) is = absurd is
-no_variable any_call is = absurd is
+use Rattle.tl_schema.proofs.AskedFormed.{no_variable}
 
 module _ (schema : Declared) (good : IsSchema schema) where
   -- a part of a type that passes the checks has none of the causes

@@ -1,6 +1,6 @@
 -- Which nodes a search from a node has reached.
-use Rattle.std.proofs.Common.{◌≡◌, ◌⊎◌, inl, inr, ◌↔◌, ℕ, Bool, true, List, [], ◌∷◌, ◌++◌, length, slice_get, Some, ◌<◌, IsTrue, ap, sym, ◌∙◌, subst, arith}
-use Rattle.std.proofs.lemmas.Option.{same_Some, slice_get_within}
+use Rattle.std.proofs.Common.{◌≡◌, ◌⊎◌, inl, inr, ◌↔◌, ℕ, Bool, true, List, [], ◌∷◌, ◌++◌, length, slice_get, Some, ◌<◌, sym, ◌∙◌, subst, arith}
+use Rattle.std.proofs.lemmas.Option.{slice_get_within}
 use Rattle.tl_graph.specs.Paths.{Path, step, further, Edge, IsIn}
 use Rattle.tl_graph.specs.Needs.{IsMarked}
 use Rattle.tl_graph.specs.Steps.{Reached}
@@ -84,5 +84,5 @@ module _ (edges : List (List ℕ)) (k : ℕ) (marks : List Bool) (x : Explored e
   leads_to_mark _ (step j e) = x.start j e
   leads_to_mark _ (further i j p e) = elim (x.closed i j (leads_to_mark i p) e) [ inl h ↦ absurd (in_none i h) | inr m ↦ m ]
 
-  pub explored_all : (j : ℕ) (b : Bool) → slice_get marks j ≡ Some b → IsTrue b ↔ Path (Edge edges) k j
-  explored_all j b at = (λ h. x.sound j (at ∙ ap Some h), λ p. same_Some b true (sym at ∙ leads_to_mark j p))
+  pub explored_marks : (j : ℕ) → IsMarked marks j ↔ Path (Edge edges) k j
+  explored_marks j = (x.sound j, leads_to_mark j)

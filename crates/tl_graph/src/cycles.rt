@@ -1,10 +1,11 @@
 //! Cycles of a graph, whose nodes are numbered and have each a list of the nodes that they point to.
 ghost use Rattle.std.specs.Prelude.{◌≡◌, ◌<◌, ◌^◌, ◌↔◌, ℕ, IsTrue, IfOk, OnOk, length};
-ghost use Rattle.tl_graph.specs.Paths.{Edge, IsGraph, IsIn, IsOnCycle, edges_in};
-ghost use Rattle.tl_graph.specs.Steps.{Falls, Reached, Rises, Stays, rank};
+ghost use Rattle.tl_graph.specs.Paths.{Edge, IsGraph, IsOnCycle, edges_in};
+ghost use Rattle.tl_graph.specs.Steps.{Falls, Rises, Stays, rank};
 ghost use Rattle.tl_graph.specs.Firsts.{First};
 
-use crate::marks::no_marks;
+use crate::marks::is_marked;
+use crate::paths::reached_from;
 use std::alloc::{AllocError, Global};
 
 /// The first node on a cycle. The ranks may be any: where they are those of the graph's components, this takes time in proportion to the graph.
@@ -73,25 +74,6 @@ fn returns(alloc: Global, edges: &[Vec<u32>], k: u32) -> Result<bool, AllocError
     requires node { k < length edges.now }
     ensures { IfOk result (λ b. IsTrue b ↔ IsOnCycle (Edge (edges_in edges.now)) k) }
 {
-    let mut reached = no_marks(alloc, edges.len())?;
-    let mut pending = Vec::new(alloc);
-    reach(&mut reached, &mut pending, &edges[k as usize])?;
-    while let Some(i) = pending.pop() {
-        reach(&mut reached, &mut pending, &edges[i as usize])?;
-    }
-    Ok(reached[k as usize])
-}
-
-// Reaches nodes, of which those that were not reached before are still to be gone on from.
-fn reach(reached: &mut Vec<bool>, pending: &mut Vec<u32>, nodes: &[u32]) -> Result<(), AllocError>
-    requires { (j : ℕ) → IsIn j nodes.now → j < length reached.old.items }
-    ensures { OnOk result (Reached reached.old.items pending.old.items nodes.now reached.new.items pending.new.items) }
-{
-    for j in nodes {
-        if !reached[*j as usize] {
-            reached[*j as usize] = true;
-            pending.push(*j)?;
-        }
-    }
-    Ok(())
+    let reached = reached_from(alloc, edges, k)?;
+    Ok(is_marked(&reached, k))
 }

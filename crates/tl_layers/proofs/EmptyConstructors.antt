@@ -31,7 +31,7 @@ use Rattle.tl_schema.specs.Schemas.{Slot, Declaration, Declared}
 use Rattle.tl_schema.specs.Types.{Shape, Shapes}
 use Rattle.tl_schema.specs.Types as type
 use Rattle.tl_schema.specs.UnknownType.{BeginsUnknown, no_constructor}
-use Rattle.tl_layers.proofs.BuiltInNames.{if_by, base_by, type_not_built_in, shapeless_not_built_in}
+use Rattle.tl_schema.proofs.BuiltInNames.{if_by, base_by, type_not_built_in, shapeless_not_built_in}
 use Rattle.tl_schema.proofs.FieldsFormed.{fields_are_formed}
 use Rattle.tl_schema.proofs.Firsts as firsts
 use Rattle.tl_schema.proofs.Members.{declaration_at}

@@ -8,16 +8,9 @@ use Rattle.tl_plan.specs.Types.{is_same}
 use Rattle.tl_plan.proofs.SameTypes.{same_is, same_self}
 use Rattle.tl_layers.specs.Counterparts.{image}
 use Rattle.tl_layers.specs.Breaks.{field_index, named_condition, LacksField, IsBefore, IsChanged, NamesBit, IsSpare, IsAdded}
+use Rattle.tl_plan.proofs.SameTypes.{both, both_of}
 
 -- ---- tests in general
-
-both_of : (a b : Bool) → (a && b) ≡ true → (a ≡ true) × (b ≡ true)
-both_of true b e = (refl, e)
-both_of false b e = absurd (true≢false (sym e))
-
-both : (a b : Bool) → a ≡ true → b ≡ true → (a && b) ≡ true
-both true b e h = h
-both false b e h = absurd (true≢false (sym e))
 
 either_of : (a b : Bool) → (a || b) ≡ true → (a ≡ true) ⊎ (b ≡ true)
 either_of true b e = inl refl

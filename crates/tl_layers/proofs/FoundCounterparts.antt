@@ -1,5 +1,5 @@
 -- What `find` answers is the index of the namesake.
-use Rattle.std.proofs.Common.{◌≡◌, ℕ, ◌≤◌, List, length, position, slice_get, Option, Some, None, refl, ap, sym, ◌∙◌, Bool, true, false, ◌&&◌, not, true≢false, bytes_eq, if◌then◌else◌, arith}
+use Rattle.std.proofs.Common.{◌≡◌, ℕ, ◌≤◌, List, length, position, slice_get, Option, Some, None, refl, ap, sym, ◌∙◌, Bool, true, false, not, true≢false, bytes_eq, if◌then◌else◌, arith}
 use Rattle.std.specs.Bool.{Decides}
 use Rattle.std.proofs.lemmas.Option.{slice_get_within}
 use Rattle.std.proofs.lemmas.Slice.Eq.{bytes_eq-Decides}
@@ -9,6 +9,7 @@ use Rattle.tl_names.proofs.Firsts.{one_first}
 use Rattle.tl_schema.specs.CheckedPrograms.{Finds, HasName}
 use Rattle.tl_schema.specs.Schemas.{Declaration, Declared}
 use Rattle.tl_layers.specs.Counterparts.{is_namesake, if_own, namesake, counterpart}
+use Rattle.tl_plan.proofs.SameTypes.{both, both_of}
 
 -- e is a namesake of d
 abbrev IsNamesake : Declaration → Declaration → Type 0
@@ -23,14 +24,6 @@ kind_same : (b c : Bool) → c ≡ b → (if b then c else not c) ≡ true
 kind_same true c e = e
 kind_same false true e = absurd (true≢false e)
 kind_same false false e = refl
-
-both_of : (a b : Bool) → (a && b) ≡ true → (a ≡ true) × (b ≡ true)
-both_of true b e = (refl, e)
-both_of false b e = absurd (true≢false (sym e))
-
-both : (a b : Bool) → a ≡ true → b ≡ true → (a && b) ≡ true
-both true b e h = h
-both false b e h = absurd (true≢false (sym e))
 
 decides : (d e : Declaration) → Decides (is_namesake d e) (IsNamesake d e)
 decides d e = (

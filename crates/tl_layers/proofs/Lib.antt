@@ -26,6 +26,5 @@ pub mod SameLists
 pub mod GraphSteps
 pub mod FieldIndexes
 pub mod FirstOnes
-pub mod BuiltInNames
 pub mod EmptyConstructors
 pub mod MovedValues

@@ -5,8 +5,6 @@ use Rattle.std.proofs.lemmas.List.{length-take}
 use Rattle.std.proofs.lemmas.Option.{same_Some, slice_get_within}
 use Rattle.tl_graph.specs.Needs.{IsMarked}
 use Rattle.tl_graph.specs.Paths.{Path, step, further, Edge, IsIn, IsGraph, edges_in}
-use Rattle.tl_graph.proofs.Explored.{Explored}
-use Rattle.tl_graph.proofs.NodeLists.{in_none}
 use Rattle.tl_schema.specs.CheckedPrograms.{IsSchema}
 use Rattle.tl_schema.specs.Formed.{IsFormed}
 use Rattle.tl_schema.specs.Types.{Shape}
@@ -20,15 +18,6 @@ use Rattle.tl_layers.specs.inner.Edges.{AreEdges}
 use Rattle.tl_layers.proofs.LiftedValues.{get_some}
 use Rattle.tl_layers.proofs.MovedDeclarations.{reached_own}
 use Rattle.tl_layers.proofs.NodeNames.{Meant, itself, of_type, of_calls, names_to, names_from, field_in, in_field, nodes_below}
-
--- the nodes with a mark are those to which a path leads, where nothing is pending
-module _ (edges : List (List ℕ)) (k : ℕ) (marks : List Bool) (x : Explored edges k marks []) where
-  leads_to_mark : (j : ℕ) → Path (Edge edges) k j → IsMarked marks j
-  leads_to_mark _ (step j e) = x.start j e
-  leads_to_mark _ (further i j p e) = elim (x.closed i j (leads_to_mark i p) e) [ inl h ↦ absurd (in_none i h) | inr m ↦ m ]
-
-  pub explored_marks : (j : ℕ) → IsMarked marks j ↔ Path (Edge edges) k j
-  explored_marks j = (x.sound j, leads_to_mark j)
 
 -- what is reached is there
 pub reached_within : (S : Declared) → IsSchema S → (T : Shape) (i : ℕ) → IsFormed S T → Reached S T i → i < length S.decls

@@ -5,7 +5,6 @@ mod comparing;
 mod fault;
 mod field_breaks;
 mod fields;
-mod heads;
 mod images;
 mod laws;
 mod layers;
@@ -13,7 +12,6 @@ mod lifting;
 mod moved;
 mod naming;
 mod pairs;
-mod paths;
 
 pub use comparing::compare;
 pub use fault::{Break, LayerFault};

@@ -10,9 +10,9 @@ ghost use Rattle.tl_layers.specs.Reached.{Reached};
 ghost use Rattle.tl_layers.specs.inner.Graphs.{all_lists, declaration_lists, entry_node, nodes_in, nodes_of, nodes_of_each, type_node, type_total};
 ghost use Rattle.tl_layers.specs.inner.Edges.{AreEdges};
 
-use crate::heads::Heads;
-use crate::paths::reached_from;
 use std::alloc::{AllocError, Global};
+use tl_graph::reached_from;
+use tl_plan::Heads;
 use tl_schema::{Schema, SchemaField, TypeRef};
 
 /// Marks exactly the declarations that the type reaches. A schema of so many declarations and types that their sum passes 32 bits is out of memory.

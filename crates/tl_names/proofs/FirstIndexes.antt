@@ -11,10 +11,10 @@ use Rattle.tl_names.specs.Indexes.{first_of, is_type, constructor_index}
 use Rattle.tl_names.proofs.Indexes.{HoldsAt, first_same}
 use Rattle.tl_names.proofs.TestedIndexes.{first_passes, none_passes}
 
-abbrev IsNamed : List ℕ → DeclText → Type 0
+abbrev pub IsNamed : List ℕ → DeclText → Type 0
 IsNamed name d = (is_constructor d ≡ true) × (d.name ≡ name)
 
-is_named : (name : List ℕ) (d : DeclText) → Decides (is_constructor d && bytes_eq name d.name) (IsNamed name d)
+pub is_named : (name : List ℕ) (d : DeclText) → Decides (is_constructor d && bytes_eq name d.name) (IsNamed name d)
 is_named name d =
     Decides-and (is_constructor d) (bytes_eq name d.name) (λ h. h, λ h. h) (Decides-like (bytes_eq name d.name) sym sym (bytes_eq-Decides name d.name))
 
@@ -31,13 +31,13 @@ module _ (ds : List DeclText) (name : List ℕ) where
 abbrev Makes : List ℕ → DeclText → Type 0
 Makes type d = (is_constructor d ≡ true) × (result_head d ≡ Some type)
 
-type_made : (type : List ℕ) (own : Bool) (head : Option (List ℕ)) → Decides (is_type type (if own then head else None)) ((own ≡ true) × (head ≡ Some type))
+pub type_made : (type : List ℕ) (own : Bool) (head : Option (List ℕ)) → Decides (is_type type (if own then head else None)) ((own ≡ true) × (head ≡ Some type))
 type_made type true (Some name) =
     let same = bytes_eq-Decides type name in (λ h. (refl, ap Some (sym (same.0 h))), λ h. same.1 (sym (same_Some name type h.1)))
 type_made type true None = (λ h. absurd (true≢false (sym h)), λ h. absurd (none-some type h.1))
 type_made type false head = (λ h. absurd (true≢false (sym h)), λ h. absurd (true≢false (sym h.0)))
 
-makes : (type : List ℕ) (d : DeclText) → Decides (is_type type (own_type d)) (Makes type d)
+pub makes : (type : List ℕ) (d : DeclText) → Decides (is_type type (own_type d)) (Makes type d)
 makes type d = type_made type (is_constructor d) (result_head d)
 
 module _ (ds : List DeclText) (type : List ℕ) where

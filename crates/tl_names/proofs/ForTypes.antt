@@ -4,7 +4,7 @@ use Rattle.std.specs.Box.{box_value}
 use Rattle.std.proofs.lemmas.Option.{none-some, same_Some}
 use Rattle.tl_program.specs.Trees.{Tree, Trees, trees_of, no_trees, tree}
 use Rattle.tl_program.specs.Trees as written
-use Rattle.tl_program.specs.Program.{KindText, FieldText, DeclText}
+use Rattle.tl_program.specs.Program.{KindText, DeclText}
 use Rattle.tl_program.specs.Program as kind
 use Rattle.tl_names.specs.What.{what_of, variable_named}
 use Rattle.tl_names.specs.declared.what.What.{What}
@@ -14,6 +14,7 @@ use Rattle.tl_names.specs.MeantViews.{meant_view}
 use Rattle.tl_names.specs.declared.meant.Meant.{Meant, Named, Percent, AnyCall, the_lemmas}
 use Rattle.tl_names.specs.inner.Resolved.{ForType}
 use Rattle.tl_names.proofs.Maps.{slice_get_item}
+use Rattle.tl_names.proofs.BuiltMeants.{view-Percent, view-AnyCall}
 
 -- ---- elements of equal lists
 
@@ -63,12 +64,6 @@ module _ (ds : List DeclText) (d : DeclText) where
 
 view-Named : (w : What) (args : Vec Meant Global) → meant_view (Named w args) ≡ named w (meants_of (map meant_view args.items))
 view-Named w args = search (rules, the_lemmas)
-
-view-Percent : (m : Meant) (b : Box Meant Global) → box_value b ≡ m → meant_view (Percent b) ≡ percent (meant_view m)
-view-Percent m b e = search (rules, the_lemmas)
-
-view-AnyCall : meant_view AnyCall ≡ any_call
-view-AnyCall = search (rules, the_lemmas)
 
 -- what holds of each type that a resolved one stands for, by its form
 module _ (ds : List DeclText) (m : Meant) (P : DeclText → Tree → Type 0) where

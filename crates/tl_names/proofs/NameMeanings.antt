@@ -1,11 +1,9 @@
 -- What a name means, said by the declarations and not by numbers.
 use Rattle.std.proofs.Common.{◌≡◌, ◌≢◌, ℕ, Bool, true, false, not, ◌&&◌, ◌||◌, List, [], ◌∷◌, ◌++◌, bytes_eq, position, Option, Some, None, refl, ap, ap₂, sym, subst, ◌∙◌, if◌then◌else◌, true≢false}
 use Rattle.std.specs.Prelude.{codes, is_some}
-use Rattle.std.specs.Bool.{Decides}
 use Rattle.std.specs.List.{fold, list_any, position_or_len}
-use Rattle.std.proofs.lemmas.Bool.Decides.{Decides-and, Decides-like}
 use Rattle.std.proofs.lemmas.List.Folds.{list_any-append}
-use Rattle.std.proofs.lemmas.Option.{none-some, same_Some}
+use Rattle.std.proofs.lemmas.Option.{none-some}
 use Rattle.std.proofs.lemmas.Slice.Eq.{bytes_eq-Decides}
 use Rattle.tl_program.specs.Trees.{Tree, named, percent, any_call}
 use Rattle.tl_program.specs.Program.{DeclText}
@@ -23,15 +21,9 @@ use Rattle.tl_names.specs.declared.what.What.{What}
 use Rattle.tl_names.proofs.Indexes.{HoldsAt, first_same}
 use Rattle.tl_names.proofs.Positions.{first_position, position_not_there, position_there}
 use Rattle.tl_names.proofs.IndexSteps.{Makes, made_index, index_made}
+use Rattle.tl_names.proofs.FirstIndexes.{IsNamed, is_named, makes}
 
 -- ---- constructors of a name
-
-abbrev IsNamed : List ℕ → DeclText → Type 0
-IsNamed name d = (is_constructor d ≡ true) × (d.name ≡ name)
-
-is_named : (name : List ℕ) (d : DeclText) → Decides (is_constructor d && bytes_eq name d.name) (IsNamed name d)
-is_named name d =
-    Decides-and (is_constructor d) (bytes_eq name d.name) (λ h. h, λ h. h) (Decides-like (bytes_eq name d.name) sym sym (bytes_eq-Decides name d.name))
 
 -- the index of a name is that of its first constructor
 pub first_named : (ds : List DeclText) (name : List ℕ) → FirstNamed ds name (constructor_named ds name)
@@ -39,15 +31,6 @@ first_named ds name =
     first_same _ _ (λ j (p : HoldsAt (IsNamed name) ds j). (p.x, record { there = p.there; own = p.has.0; named = p.has.1 })) (λ j (c : (d : DeclText) × IsConstructorNamed ds name j d). record { x = c.0; there = c.1.there; has = (c.1.own, c.1.named) }) (constructor_named ds name) (first_position _ (IsNamed name) (is_named name) ds)
 
 -- ---- constructors of a type
-
-type_made : (type : List ℕ) (own : Bool) (head : Option (List ℕ)) → Decides (is_type type (if own then head else None)) ((own ≡ true) × (head ≡ Some type))
-type_made type true (Some name) =
-    let same = bytes_eq-Decides type name in (λ h. (refl, ap Some (sym (same.0 h))), λ h. same.1 (sym (same_Some name type h.1)))
-type_made type true None = (λ h. absurd (true≢false (sym h)), λ h. absurd (none-some type h.1))
-type_made type false head = (λ h. absurd (true≢false (sym h)), λ h. absurd (true≢false (sym h.0)))
-
-makes : (type : List ℕ) (d : DeclText) → Decides (is_type type (own_type d)) (Makes type d)
-makes type d = type_made type (is_constructor d) (result_head d)
 
 abbrev makes_type : List ℕ → DeclText → Bool
 makes_type type d = is_type type (own_type d)

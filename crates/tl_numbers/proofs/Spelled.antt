@@ -5,10 +5,10 @@ use Rattle.std.proofs.lemmas.Nat.{from_le_bytes-to_le_bytes_4, from_le_bytes-to_
 use Rattle.tl_numbers.specs.Bytes.{AreBytes}
 use Rattle.tl_numbers.specs.Numbers.{word, double_word, word_number, double_number, Determine}
 
-word_fits : (bs : List ℕ) → AreBytes bs → from_le_bytes w32 bs < 2 ^ 32
+pub word_fits : (bs : List ℕ) → AreBytes bs → from_le_bytes w32 bs < 2 ^ 32
 word_fits bs bytes = omega (arith, bytes 0, bytes 1, bytes 2, bytes 3)
 
-double_fits : (bs : List ℕ) → AreBytes bs → from_le_bytes w64 bs < 2 ^ 64
+pub double_fits : (bs : List ℕ) → AreBytes bs → from_le_bytes w64 bs < 2 ^ 64
 double_fits bs bytes = omega (arith, bytes 0, bytes 1, bytes 2, bytes 3, bytes 4, bytes 5, bytes 6, bytes 7)
 
 word_bytes : (n : ℕ) → AreBytes (word n)

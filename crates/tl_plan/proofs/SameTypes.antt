@@ -4,11 +4,11 @@ use Rattle.tl_schema.specs.Types.{Shape, int, long, nat, opaque, str, raw, flag,
 use Rattle.tl_plan.specs.Types.{is_equal, is_same, are_same}
 use Rattle.tl_plan.specs.PlanLaws.{SameTypes}
 
-both : (a b : Bool) → a ≡ true → b ≡ true → (a && b) ≡ true
+pub both : (a b : Bool) → a ≡ true → b ≡ true → (a && b) ≡ true
 both true b e h = h
 both false b e h = absurd (true≢false (sym e))
 
-both_of : (a b : Bool) → (a && b) ≡ true → (a ≡ true) × (b ≡ true)
+pub both_of : (a b : Bool) → (a && b) ≡ true → (a ≡ true) × (b ≡ true)
 both_of true b e = (refl, e)
 both_of false b e = absurd (true≢false (sym e))
 

@@ -1,5 +1,6 @@
 //! The constructors of each type, and the functions.
-ghost use Rattle.std.specs.Prelude.{◌≡◌, IfOk, OnOk, [], ◌∷◌, ◌++◌, if◌then◌else◌, get_or, replicate};
+ghost use Rattle.std.specs.Prelude.{◌≡◌, IfOk, OnOk, [], ◌∷◌, ◌++◌, if◌then◌else◌, get_or, length, replicate};
+ghost use Rattle.tl_names.specs.Indexes.{types_of};
 ghost use Rattle.tl_schema.specs.CheckedPrograms.{IsSchema};
 ghost use Rattle.tl_plan.specs.inner.Walks.{AreHeads, lists_of, noted};
 
@@ -16,6 +17,7 @@ pub struct Heads {
 impl Heads {
     pub fn of(alloc: Global, schema: &Schema) -> Result<Heads, AllocError>
         ensures heads { IfOk result (λ h. AreHeads schema.now (lists_of h.constructors.items) h.functions.items) }
+        ensures count { IfOk result (λ h. length h.constructors.items ≡ length (types_of schema.now.program)) }
         ensures sound { IsSchema schema.now }
     {
         let count = schema.count();

@@ -13,6 +13,7 @@ mod table;
 mod walk;
 
 pub use fault::{MAX_INSTANCES, MAX_LEVELS, PlanFault};
+pub use heads::Heads;
 pub use instances::{Instance, Member};
 pub use laws::{
     entries_are_declared, instances_are_formed, instances_have_members, items_have_instances,

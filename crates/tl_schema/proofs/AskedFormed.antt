@@ -17,7 +17,7 @@ use Rattle.tl_names.proofs.HeadNames.{type_name}
 use Rattle.tl_schema.proofs.FormedTypes.{IsFine, type_formed}
 
 -- who asks has no variables
-no_variable : (u : Tree) → NamesVariable asker u → variable_of asker (type_name u) < 0
+pub no_variable : (u : Tree) → NamesVariable asker u → variable_of asker (type_name u) < 0
 no_variable (named name args) is = absurd (true≢false (sym is))
 no_variable (percent t) is = absurd is
 no_variable any_call is = absurd is

@@ -45,7 +45,7 @@ built_in_by : (name : List ℕ) (P : Option BuiltIn → Type 0) → ((b : BuiltI
 built_in_by name P each none =
     chosen_by name P lines (each Int, (each Long, (each Double, (each Str, (each Bytes, (each Vector, (each Int128, (each Int256, none))))))))
 
-own_is_lower : (b : BuiltIn) → is_type_name (own_name b) ≡ false
+pub own_is_lower : (b : BuiltIn) → is_type_name (own_name b) ≡ false
 own_is_lower Int = refl
 own_is_lower Long = refl
 own_is_lower Double = refl

@@ -48,7 +48,7 @@ pub mod OneAnswer
 mod TypeSteps
 pub mod ClosedFormed
 mod TypeIndexes
-mod BuiltInNames
+pub mod BuiltInNames
 pub mod Members
 pub mod FormedTypes
 pub mod FieldsFormed

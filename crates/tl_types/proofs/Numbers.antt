@@ -10,6 +10,7 @@ use Rattle.tl_types.specs.Offsets.{moved}
 use Rattle.tl_types.specs.inner.Reading.{spot, Fault, exact_at, word_at, double_at}
 use Rattle.tl_types.specs.declared.cause.Cause.{Cause}
 use Rattle.tl_types.specs.declared.cause.Cause.TheVariants.{Truncated}
+use Rattle.tl_numbers.proofs.Spelled.{word_fits, double_fits}
 
 pub moved_moved : (p m n k : ℕ) → k ≡ m + n → moved (moved p m) n ≡ moved p k
 moved_moved p m n k e = omega (arith, e)
@@ -76,12 +77,6 @@ bytes_before n b le bytes k =
       | inl lt ↦ omega (arith, get_or-take n b k 0 lt, bytes k)
       | inr past ↦ omega (arith, get_or_past (take n b) k 0 (omega (arith, length-take-le n b le, past)))
     ]
-
-word_fits : (bs : List ℕ) → AreBytes bs → from_le_bytes w32 bs < 2 ^ 32
-word_fits bs bytes = omega (arith, bytes 0, bytes 1, bytes 2, bytes 3)
-
-double_fits : (bs : List ℕ) → AreBytes bs → from_le_bytes w64 bs < 2 ^ 64
-double_fits bs bytes = omega (arith, bytes 0, bytes 1, bytes 2, bytes 3, bytes 4, bytes 5, bytes 6, bytes 7)
 
 -- bytes begin with an item of n bytes, or end before
 pub data BeginsItem (n : ℕ) (b : List ℕ) : Type 0 where

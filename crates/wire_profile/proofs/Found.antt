@@ -1,11 +1,11 @@
 -- The numbers of types and the indexes of forms, as they are found.
-use Rattle.std.proofs.Common.{◌≡◌, ℕ, zero, suc, ◌<◌, ◌≤◌, List, [], ◌∷◌, ◌++◌, length, map, take, get_or, Option, Some, None, Bool, true, false, ◌&&◌, refl, sym, ap, ◌∙◌, subst, inl, inr, arith, true≢false}
+use Rattle.std.proofs.Common.{◌≡◌, ℕ, zero, suc, ◌<◌, ◌≤◌, List, [], ◌∷◌, ◌++◌, length, map, take, get_or, Option, Some, None, Bool, true, false, refl, sym, ap, ◌∙◌, subst, inl, inr, arith, true≢false}
 use Rattle.std.specs.Prelude.{unwrap_or}
 use Rattle.std.specs.List.{position_or_len}
 use Rattle.std.proofs.lemmas.List.Sums.{position_or_len_is}
 use Rattle.std.proofs.lemmas.Option.{get_or_from_slice_get, slice_get-get_or}
 use Rattle.std.proofs.lemmas.Slice.Eq.{bytes_eq-Decides}
-use Rattle.tl_schema.specs.Types.{Shape, Shapes, boxed, no_shapes}
+use Rattle.tl_schema.specs.Types.{Shape, boxed, no_shapes}
 use Rattle.tl_schema.specs.Types as type
 use Rattle.tl_schema.specs.Schemas.{Declaration, Declared}
 use Rattle.tl_schema.specs.CheckedPrograms.{Finds}
@@ -17,6 +17,7 @@ use Rattle.wire_profile.specs.Faults.{has_name}
 use Rattle.wire_profile.specs.Profiles.{AreHeads, IsHead}
 use Rattle.wire_profile.specs.inner.Heads.{head_in}
 use Rattle.wire_profile.proofs.FormTable.{some_is, clash, within}
+use Rattle.wire_profile.proofs.FormTable.{both_of, both_true}
 
 -- ---- heads
 
@@ -45,14 +46,6 @@ equal_self : (a b : Bool) → b ≡ a → is_equal a b ≡ true
 equal_self true b e = e
 equal_self false true e = absurd (true≢false e)
 equal_self false false e = refl
-
-both_of : (a b : Bool) → (a && b) ≡ true → (a ≡ true) × (b ≡ true)
-both_of true b e = (refl, e)
-both_of false b e = absurd (clash e)
-
-both_true : (a b : Bool) → a ≡ true → b ≡ true → (a && b) ≡ true
-both_true true b e h = h
-both_true false b e h = absurd (clash e)
 
 pub name_is : (f : FormView) (d : Declaration) → has_name f d ≡ true → (d.name ≡ f.name) × (d.function ≡ f.function)
 name_is f d e = let both = both_of _ _ e in (sym ((bytes_eq-Decides f.name d.name).0 both.0), equal_is f.function d.function both.1)

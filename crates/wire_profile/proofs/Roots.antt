@@ -1,11 +1,9 @@
 -- The roots of a profile's plan are types with values.
-use Rattle.std.proofs.Common.{◌≡◌, ℕ, zero, suc, ◌<◌, List, [], ◌∷◌, length, Some, Ok, Err, refl, sym, ap, ◌∙◌, subst, inl, inr, arith, true≢false}
+use Rattle.std.proofs.Common.{◌≡◌, ℕ, zero, suc, ◌<◌, List, [], ◌∷◌, length, Some, Ok, Err, refl, sym, ap, ◌∙◌, subst, inl, inr, arith}
 use Rattle.std.specs.Prelude.{slice_get, IsTrue}
-use Rattle.tl_program.specs.Trees.{Tree, named, percent, any_call}
+use Rattle.tl_program.specs.Trees.{Tree}
 use Rattle.tl_names.specs.Parts.{IsPart}
-use Rattle.tl_names.specs.Indexes.{types_of, variable_of}
-use Rattle.tl_names.proofs.HeadNames.{type_name}
-use Rattle.tl_schema.specs.UnknownVariable.{NamesVariable}
+use Rattle.tl_names.specs.Indexes.{types_of}
 use Rattle.tl_schema.specs.Types.{Shape, boxed, no_shapes}
 use Rattle.tl_schema.specs.Schemas.{Declared}
 use Rattle.tl_schema.specs.CheckedPrograms.{IsSchema}
@@ -24,11 +22,7 @@ use Rattle.wire_profile.specs.Profiles.{IsHead, AreHeads, IsProfile, root_shapes
 use Rattle.wire_profile.proofs.FormTable.{member_form, some_is}
 use Rattle.wire_profile.proofs.PlanLimits.{has_plan}
 use Rattle.wire_profile.proofs.ProfileFacts.{is_member}
-
-no_variable : (u : Tree) → NamesVariable asker u → variable_of asker (type_name u) < 0
-no_variable (named name args) is = absurd (true≢false (sym is))
-no_variable (percent t) is = absurd is
-no_variable any_call is = absurd is
+use Rattle.tl_schema.proofs.AskedFormed.{no_variable}
 
 module _ (schema : Declared) (good : IsSchema schema) where
   asked_part : (t : Tree) → PassesTypeBy schema.program type_causes t → (u : Tree) → IsPart u t → IsFine schema.program asker 0 u

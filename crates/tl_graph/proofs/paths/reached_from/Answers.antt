@@ -1,9 +1,8 @@
-use Rattle.std.proofs.Common.{◌≡◌, ◌<◌, length, refl, arith}
-use Rattle.std.proofs.lemmas.Option.{slice_get_read}
+use Rattle.std.proofs.Common.{◌≡◌, ◌<◌, length, arith}
 use Rattle.tl_graph.specs.Paths.{edges_in}
 use Rattle.tl_graph.proofs.NodeLists.{leads_within, length_edges, edges_at, no_items}
-use Rattle.tl_graph.proofs.Explored.{explored_first, explored_more, explored_all, pending_within}
-use Rattle.tl_graph.proofs.cycles.returns.Goals as goal
+use Rattle.tl_graph.proofs.Explored.{explored_first, explored_more, explored_marks, pending_within}
+use Rattle.tl_graph.proofs.paths.reached_from.Goals as goal
 
 pub reach-requires : goal.reach-requires
 reach-requires c =
@@ -36,8 +35,10 @@ loop-i-preserved c =
     let at = edges_at c.args.edges.now c.in-Some.i c.index-edges-i.result c.deref-in-Some.result.now within c.index-edges-i.is c.deref-in-Some.ensures.value in
     explored_more (edges_in c.args.edges.now) c.args.k _ _ _ _ _ c.in-Some.i (rw c.in-Some.ensures.items at c.loop-i.invariant) at c.in_ok-reach-2.ensures
 
-pub returns : goal.returns
-returns c =
+pub returns-clause-count : goal.returns-clause-count
+returns-clause-count c = omega (arith, c.loop-i.invariant.count, length_edges c.args.edges.now)
+
+pub returns-clause-marks : goal.returns-clause-marks
+returns-clause-marks c =
     let none = no_items c.loop-i.pending.items (omega (arith, c.in_default.ensures.cases.0)) in
-    let within : c.args.k < length c.loop-i.reached.items = omega (arith, c.requires.node, c.loop-i.invariant.count, length_edges c.args.edges.now) in
-    explored_all _ _ _ (rw none at c.loop-i.invariant) c.args.k _ (slice_get_read c.loop-i.reached.items _ c.args.k c.index.result.now refl within c.index.ensures)
+    explored_marks _ _ _ (rw none at c.loop-i.invariant)

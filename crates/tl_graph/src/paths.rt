@@ -4,6 +4,7 @@ ghost use Rattle.tl_graph.specs.Needs.{IsMarked};
 ghost use Rattle.tl_graph.specs.Paths.{Edge, IsGraph, IsIn, Path, edges_in};
 ghost use Rattle.tl_graph.specs.Steps.{Reached};
 
+use crate::marks::no_marks;
 use std::alloc::{AllocError, Global};
 
 /// Marks exactly the nodes to which a path leads from k.
@@ -20,13 +21,6 @@ pub fn reached_from(alloc: Global, edges: &[Vec<u32>], k: u32) -> Result<Vec<boo
         reach(&mut reached, &mut pending, &edges[i as usize])?;
     }
     Ok(reached)
-}
-
-fn no_marks(alloc: Global, count: usize) -> Result<Vec<bool>, AllocError>
-    ensures count { IfOk result (λ marks. length marks.items ≡ count) }
-    ensures none { IfOk result (λ marks. (k : ℕ) → IsMarked marks.items k → ⊥) }
-{
-    Ok(vec![in alloc; false; count]?)
 }
 
 // Reaches nodes, of which those that were not reached before are still to be gone on from.

@@ -4,8 +4,8 @@ use Rattle.std.proofs.lemmas.Option.{slice_get_read, slice_get-get_or}
 use Rattle.tl_graph.specs.Steps.{Reached}
 use Rattle.tl_graph.proofs.NodeLists.{take_push}
 use Rattle.tl_graph.proofs.ReachedNodes.{reached_none, reached_again, reached_new}
-use Rattle.tl_graph.proofs.cycles.reach.Goals as goal
-use Rattle.tl_graph.proofs.cycles.reach.Goals.{then-not-index+in_ok-push, else-not-index}
+use Rattle.tl_graph.proofs.paths.reach.Goals as goal
+use Rattle.tl_graph.proofs.paths.reach.Goals.{then-not-index+in_ok-push, else-not-index}
 
 pub loop-j-init : goal.loop-j-init
 loop-j-init c = reached_none _ _
