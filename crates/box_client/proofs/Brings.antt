@@ -6,28 +6,30 @@ use Rattle.pts_machine.specs.States.{LaneState}
 use Rattle.pts_machine.specs.Steps.{extend}
 use Rattle.pts_machine.specs.SeqStates.{SettingsState, asks_again, overlaid}
 use Rattle.box_events.specs.declared.difference_fault.WeaveFault.{WeaveFault}
-use Rattle.box_events.specs.declared.difference_fault.WeaveFault.TheVariants.{Overlap, Uneven, Memory as WeaveMemory}
+use Rattle.tl_base.specs.declared.fault.Fault.{Fault}
+use Rattle.tl_base.specs.declared.fault.Fault.TheVariants.{Refused, Memory}
 use Rattle.box_events.specs.Weaving.{Woven}
 use Rattle.box_events.specs.Refusal.{Refuses}
-use Rattle.box_events.specs.Weaves.{WeaveCause, woven_of}
+use Rattle.box_events.specs.Weaves.{woven_of}
 use Rattle.box_events.proofs.Made.{is_made, is_why}
+use Rattle.box_client.specs.declared.fault.ClientFault.TheVariants.{SeqBack}
 use Rattle.box_client.specs.declared.received.Received.{Received}
 use Rattle.box_client.specs.Faults.{fault_by}
 use Rattle.box_client.specs.States.{ClientState}
-use Rattle.box_client.specs.Replies.{ignored, refuses, becomes, seq_back, group_done, group_taken, group_woven, brings}
+use Rattle.box_client.specs.Replies.{ignored, refuses, becomes, group_done, group_taken, group_woven, brings}
 use Rattle.box_client.specs.Calls.{Answers}
 
-abbrev news_of : ClientState → Received → Result (List EventView) WeaveCause
+abbrev news_of : ClientState → Received → Result (List EventView) WeaveFault
 news_of c b = woven_of c.common.at b.state.pts b.news b.others
 
-abbrev messages_of : ClientState → Received → Result (List EventView) WeaveCause
+abbrev messages_of : ClientState → Received → Result (List EventView) WeaveFault
 messages_of c b = woven_of c.secret.at b.state.qts b.secrets []
 
 not_taken : (back : Bool) (c : ClientState) (b : Received) (xs ys : List EventView) → group_taken back c b xs ys ≢ ignored
 not_taken true c b xs ys e = cc
 not_taken false c b xs ys e = cc
 
-not_woven : (c : ClientState) (b : Received) (o p : Result (List EventView) WeaveCause) → group_woven c b o p ≢ ignored
+not_woven : (c : ClientState) (b : Received) (o p : Result (List EventView) WeaveFault) → group_woven c b o p ≢ ignored
 not_woven c b (Err cause) p e = cc
 not_woven c b (Ok xs) (Err cause) e = cc
 not_woven c b (Ok xs) (Ok ys) e = not_taken (b.last && ltb b.state.seq c.settings.at) c b xs ys e
@@ -35,15 +37,13 @@ not_woven c b (Ok xs) (Ok ys) e = not_taken (b.last && ltb b.state.seq c.setting
 pub not_ignored : (c : ClientState) (b : Received) → brings c b ≢ ignored
 not_ignored c b = not_woven c b (news_of c b) (messages_of c b)
 
-pub news_refused : (c : ClientState) (b : Received) (fault : WeaveFault) (d : ClientState) → Refuses c.common.at b.state.pts b.news b.others fault → d ≡ c → Answers c (brings c b) (Err (fault_by fault)) d
-news_refused c b (Overlap pts) d r same = (ap (λ (o : Result (List EventView) WeaveCause). group_woven c b o (messages_of c b)) ((is_why c.common.at b.state.pts b.news b.others).0 pts r), same)
-news_refused c b (Uneven x y z) d r same = (ap (λ (o : Result (List EventView) WeaveCause). group_woven c b o (messages_of c b)) ((is_why c.common.at b.state.pts b.news b.others).1 x y z r), same)
-news_refused c b WeaveMemory d r same = (not_ignored c b, same)
+pub news_refused : (c : ClientState) (b : Received) (fault : Fault WeaveFault) (d : ClientState) → Refuses c.common.at b.state.pts b.news b.others fault → d ≡ c → Answers c (brings c b) (Err (fault_by fault)) d
+news_refused c b (Refused cause) d r same = (ap (λ (o : Result (List EventView) WeaveFault). group_woven c b o (messages_of c b)) ((is_why c.common.at b.state.pts b.news b.others).0 cause r), same)
+news_refused c b Memory d r same = (not_ignored c b, same)
 
-pub messages_refused : (c : ClientState) (b : Received) (xs : List EventView) (fault : WeaveFault) (d : ClientState) → Woven c.common.at b.state.pts b.news b.others xs → Refuses c.secret.at b.state.qts b.secrets [] fault → d ≡ c → Answers c (brings c b) (Err (fault_by fault)) d
-messages_refused c b xs (Overlap pts) d w r same = (ap₂ (group_woven c b) (is_made c.common.at b.state.pts b.news b.others xs w) ((is_why c.secret.at b.state.qts b.secrets []).0 pts r), same)
-messages_refused c b xs (Uneven x y z) d w r same = (ap₂ (group_woven c b) (is_made c.common.at b.state.pts b.news b.others xs w) ((is_why c.secret.at b.state.qts b.secrets []).1 x y z r), same)
-messages_refused c b xs WeaveMemory d w r same = (not_ignored c b, same)
+pub messages_refused : (c : ClientState) (b : Received) (xs : List EventView) (fault : Fault WeaveFault) (d : ClientState) → Woven c.common.at b.state.pts b.news b.others xs → Refuses c.secret.at b.state.qts b.secrets [] fault → d ≡ c → Answers c (brings c b) (Err (fault_by fault)) d
+messages_refused c b xs (Refused cause) d w r same = (ap₂ (group_woven c b) (is_made c.common.at b.state.pts b.news b.others xs w) ((is_why c.secret.at b.state.qts b.secrets []).0 cause r), same)
+messages_refused c b xs Memory d w r same = (not_ignored c b, same)
 
 pub both_woven : (c : ClientState) (b : Received) (xs ys : List EventView) → Woven c.common.at b.state.pts b.news b.others xs → Woven c.secret.at b.state.qts b.secrets [] ys
     → brings c b ≡ group_taken (b.last && ltb b.state.seq c.settings.at) c b xs ys
@@ -56,7 +56,7 @@ is_not_back : (a b : ℕ) → b ≤ a → ltb a b ≡ false
 is_not_back a b le = grind (arith, nat_tests)
 
 pub goes_back : (c : ClientState) (b : Received) (xs ys : List EventView) → Woven c.common.at b.state.pts b.news b.others xs → Woven c.secret.at b.state.qts b.secrets [] ys
-    → b.last ≡ true → b.state.seq < c.settings.at → brings c b ≡ refuses (seq_back c.settings.at b.state.seq)
+    → b.last ≡ true → b.state.seq < c.settings.at → brings c b ≡ refuses (SeqBack c.settings.at b.state.seq)
 goes_back c b xs ys w v last lt = both_woven c b xs ys w v ∙ ap₂ (λ (p q : Bool). group_taken (p && q) c b xs ys) last (is_back b.state.seq c.settings.at lt)
 
 pub brings_last : (c : ClientState) (b : Received) (xs ys : List EventView) (d : ClientState) → Woven c.common.at b.state.pts b.news b.others xs → Woven c.secret.at b.state.qts b.secrets [] ys

@@ -9,7 +9,8 @@ use Rattle.box_events.specs.declared.updates.Push.{Push}
 use Rattle.box_events.specs.declared.updates.Push.TheVariants.{TooLong, Container}
 use Rattle.box_events.specs.declared.replies.Reply.{Reply}
 use Rattle.box_events.specs.declared.replies.Reply.TheVariants.{State, Empty, Difference, Channel as ChannelAnswer, Receipt, Error}
-use Rattle.box_events.specs.Weaves.{WeaveCause, woven_of}
+use Rattle.box_events.specs.Weaves.{woven_of}
+use Rattle.box_events.specs.declared.difference_fault.WeaveFault.{WeaveFault}
 use Rattle.channel_box.specs.States.{ChannelState, first}
 use Rattle.channel_box.specs.Steps.{is_asking, asks_number, Answered, stale, refused, taken, answered, Ticked, ticked, and_asks, and_waits, channel_is_due}
 use Rattle.box_client.specs.declared.received.Received.{Received}
@@ -77,7 +78,7 @@ taken_next : (back : Bool) (c : ClientState) (b : Received) (xs ys : List EventV
 taken_next true c b xs ys = refl
 taken_next false c b xs ys = done_next b.last c b xs ys
 
-woven_next : (c : ClientState) (b : Received) (o p : Result (List EventView) WeaveCause) → next_after c (group_woven c b o p) ≡ c.next
+woven_next : (c : ClientState) (b : Received) (o p : Result (List EventView) WeaveFault) → next_after c (group_woven c b o p) ≡ c.next
 woven_next c b (Err cause) p = refl
 woven_next c b (Ok xs) (Err cause) = refl
 woven_next c b (Ok xs) (Ok ys) = taken_next (b.last && ltb b.state.seq c.settings.at) c b xs ys

@@ -19,7 +19,8 @@ use Rattle.pts_machine.specs.States.{LaneState}
 use Rattle.pts_machine.specs.Steps.{Heard, hear, settle, extend, restart_at, new_lane}
 use Rattle.pts_machine.specs.Packs.{Pack, pack_of, last_date, puts}
 use Rattle.pts_machine.specs.SeqStates.{SettingsState, lane_of, applied, hear_pack, overlaid, forgotten as settings_forgotten}
-use Rattle.box_events.specs.Weaves.{WeaveCause, woven_of}
+use Rattle.box_events.specs.Weaves.{woven_of}
+use Rattle.box_events.specs.declared.difference_fault.WeaveFault.{WeaveFault}
 use Rattle.box_events.proofs.Made.{reaches}
 use Rattle.channel_box.specs.States.{ChannelState, first, has_id}
 use Rattle.channel_box.specs.Steps.{at_first, watched, watched_if, may_watch, channel_of, is_dropped, is_asking, is_due, heard_by, flagged, woken, forgotten, asks_number, Answered, taken_by, answered_by, grown, replied as channel_replied_by, Ticked, ticked, and_asks, and_waits, channel_is_due}
@@ -122,7 +123,7 @@ taken_numbers : (back : Bool) (c : ClientState) (b : Received) (xs ys : List Eve
 taken_numbers true c b xs ys p q = tt
 taken_numbers false c b xs ys p q = done_numbers b.last c b xs ys p q
 
-woven_numbers : (c : ClientState) (b : Received) (o s : Result (List EventView) WeaveCause) → woven_of c.common.at b.state.pts b.news b.others ≡ o → woven_of c.secret.at b.state.qts b.secrets [] ≡ s
+woven_numbers : (c : ClientState) (b : Received) (o s : Result (List EventView) WeaveFault) → woven_of c.common.at b.state.pts b.news b.others ≡ o → woven_of c.secret.at b.state.qts b.secrets [] ≡ s
     → HasNumbers c (group_woven c b o s) (n_group_done b.last (client_numbers c) b.state.pts b.state.qts b.state.seq b.state.date)
 woven_numbers c b (Err cause) s e f = tt
 woven_numbers c b (Ok xs) (Err cause) e f = tt
@@ -139,7 +140,7 @@ group_numbers c (ChannelAnswer reply) = tt
 group_numbers c (Receipt receipt) = tt
 group_numbers c (Error code text) = tt
 
-grown_numbers : (c d : ChannelState) (last : Bool) (to : ℕ) (o : Result (List EventView) WeaveCause) → ((xs : List EventView) → o ≡ Ok xs → c.lane.at + sum_by count_of xs ≡ to) → grown c last o ≡ Ok d → channel_numbers d ≡ record (channel_numbers c) { lane = n_extended (lane_numbers c.lane) to last }
+grown_numbers : (c d : ChannelState) (last : Bool) (to : ℕ) (o : Result (List EventView) WeaveFault) → ((xs : List EventView) → o ≡ Ok xs → c.lane.at + sum_by count_of xs ≡ to) → grown c last o ≡ Ok d → channel_numbers d ≡ record (channel_numbers c) { lane = n_extended (lane_numbers c.lane) to last }
 grown_numbers c d last to (Ok xs) reach is =
     let one : record c { lane = extend count_of c.lane xs last } ≡ d = cc in
     ap channel_numbers (sym one) ∙ ap (λ (l : LaneNumbers). record (channel_numbers c) { lane = l }) (lane_extended count_of c.lane xs last to (reach xs refl))
@@ -166,7 +167,7 @@ put_numbers (c ∷ cs) d e n g is step = put_over (asks_number n c) c d e cs n g
 abbrev AreOf : ClientState → Answered → ClientNumbers → Type 0
 AreOf c a n = HasNumbers c (by_channels c a) n
 
-taken_by_numbers : (c : ClientState) (e : ChannelState) (n : ℕ) (r : ChannelReply) (o : Result ChannelState WeaveCause) → channel_replied_by e r ≡ o → first (asks_number n) c.channels ≡ Some e
+taken_by_numbers : (c : ClientState) (e : ChannelState) (n : ℕ) (r : ChannelReply) (o : Result ChannelState WeaveFault) → channel_replied_by e r ≡ o → first (asks_number n) c.channels ≡ Some e
     → AreOf c (taken_by c.channels n o) (record (client_numbers c) { channels = n_at_first (n_asks_number n) (n_channel_answered r) (all_numbers c.channels) })
 taken_by_numbers c e n r (Ok d) is at = ap (λ (l : List ChannelNumbers). record (client_numbers c) { channels = l }) (put_numbers c.channels d e n (n_channel_answered r) at (channel_taken e d r is))
 taken_by_numbers c e n r (Err cause) is at = tt
@@ -218,14 +219,14 @@ becomes_numbers c d n r is = subst (λ (o : Outcome). HasNumbers c o (n_replied 
 
 -- asking
 
-abbrev to_none : EventView → Unit {0}
+abbrev pub to_none : EventView → Unit {0}
 to_none e = tt
 
 asks_over : (b : Bool) (c : ClientState) → client_numbers (cond {A = Asked} b (record { client = group_asks c; asks = difference_of c ∷ [] }) (record { client = c; asks = [] })).client ≡ cond b (n_group_asks (client_numbers c)) (client_numbers c)
 asks_over true c = refl
 asks_over false c = refl
 
-due_numbers : (c : ClientState) → group_is_due c ≡ n_group_is_due (client_numbers c)
+pub due_numbers : (c : ClientState) → group_is_due c ≡ n_group_is_due (client_numbers c)
 due_numbers c = sym (ap (λ (n : ℕ). is_due c.flag n c.common.mode) (omega (arith, len_mapped to_none c.common.held, len_mapped to_none c.secret.held, len_mapped (λ p. p.date) c.settings.held)))
 
 group_ticked_numbers : (c : ClientState) → client_numbers (group_ticked c).client ≡ n_group_ticked (client_numbers c)

@@ -80,7 +80,7 @@ saved_more cs i id x before after d lt is s so more =
 pub is_here : (cs : List ChannelState) (i : ℕ) (id : ℤ) → AreDistinct (ids_of cs) → i < length (ids_of cs) → id ≡ get_or (ids_of cs) i id → is_watched cs id ≡ true
 is_here cs i id d lt is = ap is_some (here cs i id d lt is).found
 
-get_again : (ks : List ℤ) (i : ℕ) (d : ℤ) → i < length ks → get_or ks i d ≡ get_or ks i (get_or ks i d)
+pub get_again : (ks : List ℤ) (i : ℕ) (d : ℤ) → i < length ks → get_or ks i d ≡ get_or ks i (get_or ks i d)
 get_again [] i d lt = absurd (omega (arith, lt))
 get_again (k ∷ ks) zero d lt = refl
 get_again (k ∷ ks) (suc i) d lt = get_again ks i d (omega (arith, lt))

@@ -15,13 +15,14 @@ use Rattle.pts_machine.specs.Steps.{extend, settle, forget}
 use Rattle.pts_machine.proofs.Moves.{hear_mode}
 use Rattle.pts_machine.specs.Packs.{pack_of}
 use Rattle.pts_machine.proofs.StateSteps.{pack_mode, overlay_live}
-use Rattle.box_events.specs.declared.difference_fault.WeaveFault.TheVariants.{Overlap, Uneven, Memory as WeaveMemory}
-use Rattle.box_events.specs.Weaves.{WeaveCause, woven_of}
+use Rattle.tl_base.specs.declared.fault.Fault.{Fault}
+use Rattle.tl_base.specs.declared.fault.Fault.TheVariants.{Refused, Memory}
+use Rattle.box_events.specs.Weaves.{woven_of}
+use Rattle.box_events.specs.declared.difference_fault.WeaveFault.{WeaveFault}
 use Rattle.channel_box.specs.States.{ChannelState, first}
 use Rattle.channel_box.specs.Steps.{is_asking, asks_number, Answered, stale, refused, taken, answered, Ticked, ticked, and_asks, and_waits, channel_is_due}
 use Rattle.box_client.specs.declared.received.Received.{Received}
 use Rattle.box_client.specs.declared.fault.ClientFault.{ClientFault}
-use Rattle.box_client.specs.declared.fault.ClientFault.TheVariants.{PeerError, WrongKind, Weave, SeqBack, Memory}
 use Rattle.box_client.specs.declared.fault.ReplyOutcome.{ReplyOutcome}
 use Rattle.box_client.specs.declared.fault.ReplyOutcome.TheVariants.{Reply as Taken, Stale}
 use Rattle.box_client.specs.States.{ClientState, new_client}
@@ -83,7 +84,7 @@ stays_taken : (back : Bool) (c : ClientState) (b : Received) (xs ys : List Event
 stays_taken true c b xs ys m new = m
 stays_taken false c b xs ys m new = stays_done b.last c b xs ys m new
 
-stays_woven : (c : ClientState) (b : Received) (o p : Result (List EventView) WeaveCause) → ((ys : List EventView) → p ≡ Ok ys → are_messages ys ≡ true) → IsSteady c → IsSteady (client_in c (group_woven c b o p))
+stays_woven : (c : ClientState) (b : Received) (o p : Result (List EventView) WeaveFault) → ((ys : List EventView) → p ≡ Ok ys → are_messages ys ≡ true) → IsSteady c → IsSteady (client_in c (group_woven c b o p))
 stays_woven c b (Err cause) p new m = m
 stays_woven c b (Ok xs) (Err cause) new m = m
 stays_woven c b (Ok xs) (Ok ys) new m = stays_taken (b.last && ltb b.state.seq c.settings.at) c b xs ys m (new ys refl)
@@ -125,15 +126,10 @@ stays_replied c n r m =
 kept : (c d : ClientState) → d ≡ c → IsSteady c → IsSteady d
 kept c d same m = subst IsSteady (sym same) m
 
-pub stays_answers : (old : ClientState) (o : Outcome) (result : Result ReplyOutcome ClientFault) (new : ClientState) → IsSteady old → IsSteady (client_in old o) → Answers old o result new → IsSteady new
+pub stays_answers : (old : ClientState) (o : Outcome) (result : Result ReplyOutcome (Fault ClientFault)) (new : ClientState) → IsSteady old → IsSteady (client_in old o) → Answers old o result new → IsSteady new
 stays_answers old o (Ok Taken) new m n a = subst (λ (x : Outcome). IsSteady (client_in old x)) a n
 stays_answers old o (Ok Stale) new m n a = kept old new a.1 m
-stays_answers old o (Err (PeerError code)) new m n a = kept old new a.1 m
-stays_answers old o (Err WrongKind) new m n a = kept old new a.1 m
-stays_answers old o (Err (Weave (Overlap pts))) new m n a = kept old new a.1 m
-stays_answers old o (Err (Weave (Uneven x y z))) new m n a = kept old new a.1 m
-stays_answers old o (Err (Weave WeaveMemory)) new m n a = absurd a
-stays_answers old o (Err (SeqBack at seq)) new m n a = kept old new a.1 m
+stays_answers old o (Err (Refused cause)) new m n a = kept old new a.1 m
 stays_answers old o (Err Memory) new m n a = kept old new a.1 m
 
 pub stays_restarted : (c : ClientState) → IsSteady c → IsSteady (restarted c)

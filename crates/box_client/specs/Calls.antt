@@ -1,29 +1,23 @@
 -- What the calls do, by what they answer. This project's own.
 use Rattle.std.specs.Prelude.{◌≡◌, ◌≢◌, ℤ, ◌<◌, ◌≤◌, [], ◌∷◌, ◌++◌, length, true, false, Result, Ok, Err}
 use Rattle.box_events.specs.declared.limits.TheConstants.{MAX_CHANNELS}
-use Rattle.box_events.specs.declared.difference_fault.WeaveFault.TheVariants.{Overlap, Uneven, Memory as WeaveMemory}
-use Rattle.box_events.specs.Weaves.{overlaps, uneven}
+use Rattle.tl_base.specs.declared.fault.Fault.{Fault}
+use Rattle.tl_base.specs.declared.fault.Fault.TheVariants.{Refused, Memory}
 use Rattle.pts_machine.specs.Steps.{new_lane}
 use Rattle.channel_box.specs.declared.fault.WatchFault.{WatchFault}
 use Rattle.channel_box.specs.declared.fault.WatchFault.TheVariants.{Already, TooMany, Memory as WatchMemory}
 use Rattle.channel_box.specs.Steps.{is_watched, channel_of}
 use Rattle.box_client.specs.declared.fault.ClientFault.{ClientFault}
-use Rattle.box_client.specs.declared.fault.ClientFault.TheVariants.{PeerError, WrongKind, Weave, SeqBack, Memory}
 use Rattle.box_client.specs.declared.fault.ReplyOutcome.{ReplyOutcome}
 use Rattle.box_client.specs.declared.fault.ReplyOutcome.TheVariants.{Reply as Taken, Stale}
 use Rattle.box_client.specs.States.{ClientState}
-use Rattle.box_client.specs.Replies.{Outcome, ignored, refuses, becomes, peer_error, wrong_kind, no_list, seq_back}
+use Rattle.box_client.specs.Replies.{Outcome, ignored, refuses, becomes}
 
 -- What a call answers, by what comes of the answer that it was handed. Only where somebody asks its number is memory asked for.
-abbrev pub Answers : ClientState → Outcome → Result ReplyOutcome ClientFault → ClientState → Type 0
+abbrev pub Answers : ClientState → Outcome → Result ReplyOutcome (Fault ClientFault) → ClientState → Type 0
 Answers old o (Ok Taken) new = o ≡ becomes new
 Answers old o (Ok Stale) new = (o ≡ ignored) × (new ≡ old)
-Answers old o (Err (PeerError code)) new = (o ≡ refuses (peer_error code)) × (new ≡ old)
-Answers old o (Err WrongKind) new = (o ≡ refuses wrong_kind) × (new ≡ old)
-Answers old o (Err (Weave (Overlap pts))) new = (o ≡ refuses (no_list (overlaps pts))) × (new ≡ old)
-Answers old o (Err (Weave (Uneven a b c))) new = (o ≡ refuses (no_list (uneven a b c))) × (new ≡ old)
-Answers old o (Err (Weave WeaveMemory)) new = ⊥
-Answers old o (Err (SeqBack at seq)) new = (o ≡ refuses (seq_back at seq)) × (new ≡ old)
+Answers old o (Err (Refused cause)) new = (o ≡ refuses cause) × (new ≡ old)
 Answers old o (Err Memory) new = (o ≢ ignored) × (new ≡ old)
 
 -- each cause of a refused watch, after which the client is as before; else the channel is watched, last in order

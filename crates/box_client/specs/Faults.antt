@@ -1,10 +1,10 @@
 -- A client's fault by that of weaving. This project's own.
+use Rattle.tl_base.specs.declared.fault.Fault.{Fault}
+use Rattle.tl_base.specs.declared.fault.Fault.TheVariants.{Refused, Memory}
 use Rattle.box_events.specs.declared.difference_fault.WeaveFault.{WeaveFault}
-use Rattle.box_events.specs.declared.difference_fault.WeaveFault.TheVariants.{Overlap, Uneven, Memory}
 use Rattle.box_client.specs.declared.fault.ClientFault.{ClientFault}
-use Rattle.box_client.specs.declared.fault.ClientFault.TheVariants.{Weave, Memory as NoMemory}
+use Rattle.box_client.specs.declared.fault.ClientFault.TheVariants.{Weave}
 
-abbrev pub fault_by : WeaveFault → ClientFault
-fault_by (Overlap pts) = Weave (Overlap pts)
-fault_by (Uneven a b c) = Weave (Uneven a b c)
-fault_by Memory = NoMemory
+abbrev pub fault_by : Fault WeaveFault → Fault ClientFault
+fault_by (Refused cause) = Refused (Weave cause)
+fault_by Memory = Memory

@@ -20,7 +20,7 @@ use channel_box::{Channels, WatchFault};
 use pts_machine::{Lane, Mode, Settings};
 use std::alloc::Global;
 use std::marker::Model;
-use tl_base::Memory;
+use tl_base::{Fault, Memory};
 
 /// A client: what it has of the common box, of the secret box and of the settings, and the channels that it watches.
 pub struct Client {
@@ -86,7 +86,7 @@ impl Client {
         alloc: Global,
         number: u32,
         reply: Reply,
-    ) -> Result<ReplyOutcome, ClientFault>
+    ) -> Result<ReplyOutcome, Fault<ClientFault>>
         requires range { IsReplyInRange reply }
         ensures step { Answers self.old (replied self.old number reply) result self.new }
     {

@@ -1,7 +1,10 @@
 //! What comes of an answer, and why nothing is loaded.
+ghost use Rattle.std.specs.Prelude.{◌≡◌};
+ghost use Rattle.box_client.specs.Faults.{fault_by};
+
 use box_events::{LaneName, WeaveFault};
-use std::alloc::AllocError;
 use thiserror::Error;
+use tl_base::Fault;
 
 /// What came of an answer that isn't refused.
 #[derive(Clone, Copy)]
@@ -21,14 +24,12 @@ pub enum ClientFault {
     /// It is no answer to what was asked.
     #[error("the answer is of another kind")]
     WrongKind,
-    /// Its events make no list. Never out of memory, which is a fault of its own.
+    /// Its events make no list.
     #[error("the events make no list")]
     Weave(WeaveFault),
     /// The seq of a final answer is below the client's.
     #[error("seq {seq} is below {at}")]
     SeqBack { at: u32, seq: u32 },
-    #[error("out of memory")]
-    Memory,
 }
 
 /// Why a saved client isn't loaded.
@@ -50,27 +51,12 @@ pub enum LoadFault {
     Memory,
 }
 
-impl From<AllocError> for ClientFault {
-    ghost use Rattle.std.specs.Prelude.{◌≡◌};
-    ghost use Rattle.box_client.specs.declared.fault.ClientFault.TheVariants.{Memory};
-
-    ghost from_gives = { λ _ e. e ≡ Memory };
-
-    fn from(_e: AllocError) -> ClientFault {
-        ClientFault::Memory
-    }
-}
-
-impl From<WeaveFault> for ClientFault {
-    ghost use Rattle.std.specs.Prelude.{◌≡◌};
-    ghost use Rattle.box_client.specs.Faults.{fault_by};
-
-    ghost from_gives = { λ f e. e ≡ fault_by f };
-
-    fn from(fault: WeaveFault) -> ClientFault {
-        match fault {
-            WeaveFault::Overlap { .. } | WeaveFault::Uneven { .. } => ClientFault::Weave(fault),
-            WeaveFault::Memory => ClientFault::Memory,
-        }
+/// A fault of weaving, as one of the answer that brought the events.
+pub fn of_weave(fault: Fault<WeaveFault>) -> Fault<ClientFault>
+    ensures { result ≡ fault_by fault }
+{
+    match fault {
+        Fault::Refused(cause) => Fault::Refused(ClientFault::Weave(cause)),
+        Fault::Memory => Fault::Memory,
     }
 }

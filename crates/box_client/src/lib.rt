@@ -17,3 +17,4 @@ pub use fault::{ClientFault, LoadFault, ReplyOutcome};
 pub use laws::{
     differences_that_fit_are_taken, numbers_alone, numbers_are_given_once, what_is_saved_is_loaded,
 };
+pub use tl_base::Fault;

@@ -9,14 +9,14 @@ ghost use Rattle.box_client.specs.Ranges.{IsReplyInRange};
 ghost use Rattle.box_client.specs.Calls.{Answers};
 ghost use Rattle.box_client.specs.Views.{client_of};
 
-use crate::fault::{ClientFault, ReplyOutcome};
+use crate::fault::{ClientFault, ReplyOutcome, of_weave};
 use crate::parts::ClientParts;
 use crate::received::Received;
 use box_events::{ListOf, MAX_END, Reply, Setting, State};
 use channel_box::weave_onto;
 use pts_machine::{Mode, Settings};
 use std::alloc::{AllocError, Global};
-use tl_base::Memory;
+use tl_base::{Fault, Memory};
 
 /// The answer to the request of a number comes.
 pub fn hear_reply(
@@ -24,7 +24,7 @@ pub fn hear_reply(
     alloc: Global,
     number: u32,
     reply: Reply,
-) -> Result<ReplyOutcome, ClientFault>
+) -> Result<ReplyOutcome, Fault<ClientFault>>
     requires range { IsReplyInRange reply }
     ensures step { Answers (client_of parts.old) (replied (client_of parts.old) number reply) result (client_of parts.new) }
 {
@@ -52,12 +52,12 @@ fn reply_to_group(
     parts: &mut ClientParts,
     alloc: Global,
     reply: Reply,
-) -> Result<ReplyOutcome, ClientFault>
+) -> Result<ReplyOutcome, Fault<ClientFault>>
     requires range { IsReplyInRange reply }
     ensures step { Answers (client_of parts.old) (group_replied (client_of parts.old) reply) result (client_of parts.new) }
 {
     match reply {
-        Reply::Error { code, .. } => Err(ClientFault::PeerError { code }),
+        Reply::Error { code, .. } => Err(Fault::Refused(ClientFault::PeerError { code })),
         Reply::Empty { date, seq } => {
             let state = State {
                 pts: parts.common.at(),
@@ -93,7 +93,9 @@ fn reply_to_group(
             };
             take(parts, alloc, received)
         }
-        Reply::State(_) | Reply::Channel(_) | Reply::Receipt(_) => Err(ClientFault::WrongKind),
+        Reply::State(_) | Reply::Channel(_) | Reply::Receipt(_) => {
+            Err(Fault::Refused(ClientFault::WrongKind))
+        }
     }
 }
 
@@ -102,7 +104,7 @@ fn take(
     parts: &mut ClientParts,
     alloc: Global,
     received: Received,
-) -> Result<ReplyOutcome, ClientFault>
+) -> Result<ReplyOutcome, Fault<ClientFault>>
     requires pts { received.state.pts ≤ MAX_END }
     requires qts { received.state.qts ≤ MAX_END }
     requires few { length received.news < 2 ^ 31 }
@@ -120,9 +122,15 @@ fn take(
         last,
     } = received;
     let at = parts.settings.at();
-    let events = weave_onto(alloc, &mut parts.common, state.pts, news, others)?;
+    let events = match weave_onto(alloc, &mut parts.common, state.pts, news, others) {
+        Ok(events) => events,
+        Err(fault) => return Err(of_weave(fault)),
+    };
     let none = ListOf::new(alloc);
-    let messages = weave_onto(alloc, &mut parts.secret, state.qts, secrets, none)?;
+    let messages = match weave_onto(alloc, &mut parts.secret, state.qts, secrets, none) {
+        Ok(messages) => messages,
+        Err(fault) => return Err(of_weave(fault)),
+    };
     if !last {
         parts.settings.again();
         parts.common.extend(events, false);
@@ -130,7 +138,7 @@ fn take(
         return Ok(ReplyOutcome::Reply);
     }
     if state.seq < at {
-        return Err(ClientFault::SeqBack { at, seq: state.seq });
+        return Err(Fault::Refused(ClientFault::SeqBack { at, seq: state.seq }));
     }
     overlay_settings(&mut parts.settings, settings, state)?;
     parts.common.extend(events, true);
@@ -163,20 +171,19 @@ fn reply_to_channel(
     alloc: Global,
     number: u32,
     reply: Reply,
-) -> Result<ReplyOutcome, ClientFault>
+) -> Result<ReplyOutcome, Fault<ClientFault>>
     requires range { IsReplyInRange reply }
     ensures step { Answers (client_of parts.old) (channel_replied (client_of parts.old) number reply) result (client_of parts.new) }
 {
     match reply {
-        Reply::Error { code, .. } => Err(ClientFault::PeerError { code }),
-        Reply::Channel(reply) => {
-            if parts.channels.reply(alloc, number, reply)? {
-                return Ok(ReplyOutcome::Reply);
-            }
-            Ok(ReplyOutcome::Stale)
+        Reply::Error { code, .. } => Err(Fault::Refused(ClientFault::PeerError { code })),
+        Reply::Channel(reply) => match parts.channels.reply(alloc, number, reply) {
+            Ok(true) => Ok(ReplyOutcome::Reply),
+            Ok(false) => Ok(ReplyOutcome::Stale),
+            Err(fault) => Err(of_weave(fault)),
+        },
+        Reply::State(_) | Reply::Empty { .. } | Reply::Difference { .. } | Reply::Receipt(_) => {
+            Err(Fault::Refused(ClientFault::WrongKind))
         }
-        Reply::State(_) | Reply::Empty { .. } | Reply::Difference { .. } | Reply::Receipt(_) => Err(
-            ClientFault::WrongKind,
-        ),
     }
 }

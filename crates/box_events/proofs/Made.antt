@@ -1,12 +1,15 @@
 -- The list that is made of its parts.
-use Rattle.std.proofs.Common.{◌≡◌, ◌≢◌, ℕ, ◌+◌, List, [], ◌∷◌, length, map, take, drop, Option, Some, None, Bool, true, false, eqb, Ok, refl, sym, ap, ◌∙◌, subst, arith}
+use Rattle.std.proofs.Common.{◌≡◌, ◌≢◌, ℕ, ◌+◌, List, [], ◌∷◌, length, map, take, drop, Option, Some, None, Bool, true, false, eqb, Ok, Err, refl, sym, ap, ◌∙◌, subst, arith}
 use Rattle.std.proofs.lemmas.Bool.Decides.{nat_tests}
 use Rattle.std.proofs.lemmas.List.{take-append-drop, length-append}
 use Rattle.box_events.specs.Events.{EventView, added, edited, deleted, read}
 use Rattle.box_events.specs.Boxes.{ending, AreCounted}
 use Rattle.box_events.specs.declared.updates.Placed.{Placed}
+use Rattle.box_events.specs.declared.difference_fault.WeaveFault.{WeaveFault}
+use Rattle.box_events.specs.declared.difference_fault.WeaveFault.TheVariants.{Overlap, Uneven}
+use Rattle.tl_base.specs.declared.fault.Fault.TheVariants.{Refused}
 use Rattle.box_events.specs.Weaving.{Woven, others_from}
-use Rattle.box_events.specs.Refusal.{Fits, overlap, covered}
+use Rattle.box_events.specs.Refusal.{Fits, Refuses, overlap, covered}
 use Rattle.box_events.specs.Weaves.{free, merged, woven_when, woven_of}
 use Rattle.box_events.specs.DifferenceLaws.{IsMade, IsWovenOfOthers, Reaches, IsWhy, AreCountedOthers, KeepsCounts}
 use Rattle.box_events.proofs.Merged.{fitting_woven}
@@ -63,10 +66,14 @@ reaches from to news others events is =
     let m = of_ok from to news others events is in
     omega (arith, ap ending m.is, ending_merged from news others, m.fits.even)
 
+why_refused : (from to : ℕ) (news : List (List ℕ)) (others : List Placed) (cause : WeaveFault) → Refuses from to news others (Refused cause) → woven_of from to news others ≡ Err cause
+unfolding woven_of
+why_refused from to news others (Overlap pts) r = rw r refl
+why_refused from to news others (Uneven a b c) r = rw (r.0, uneven_so (from + covered news others) to r.4, r.1, r.2, r.3) refl
+
 pub is_why : IsWhy
 unfolding woven_of
-is_why from to news others =
-    ((λ pts r. rw r refl), (λ a b c r. rw (r.0, uneven_so (from + covered news others) to r.4, r.1, r.2, r.3) refl), (λ fits. rw (fits.apart, even_so (from + covered news others) to fits.even) refl))
+is_why from to news others = (why_refused from to news others, (λ fits. rw (fits.apart, even_so (from + covered news others) to fits.even) refl))
 
 counted_of : (p : ℕ) (es : List EventView) → AreCountedOthers (others_from p es) → AreCounted es
 counted_of p [] c = tt

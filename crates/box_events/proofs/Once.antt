@@ -4,7 +4,8 @@ use Rattle.std.proofs.lemmas.List.{take_at, drop_at, map-append, length-append}
 use Rattle.box_events.specs.Events.{EventView, added, edited, deleted, read, count_of, is_new}
 use Rattle.box_events.specs.Boxes.{ending}
 use Rattle.box_events.specs.declared.updates.Placed.{Placed}
-use Rattle.box_events.specs.declared.difference_fault.WeaveFault.TheVariants.{Overlap, Uneven, Memory}
+use Rattle.box_events.specs.declared.difference_fault.WeaveFault.TheVariants.{Overlap, Uneven}
+use Rattle.tl_base.specs.declared.fault.Fault.TheVariants.{Refused, Memory}
 use Rattle.box_events.specs.Weaving.{Woven, bodies, others_from, ends_at}
 use Rattle.box_events.specs.Refusal.{AreOthers, overlap, counts, covered}
 use Rattle.box_events.specs.DifferenceLaws.{IsOneList, EachFits, EachThatFitsIsWoven, HasOthers, IsNotRefused, OthersKeepTheirNumbers}
@@ -110,8 +111,8 @@ none_some : {A : Type 0} (o : Option A) (x : A) → o ≡ None → o ≡ Some x 
 none_some o x n s = cc
 
 pub is_not_refused : IsNotRefused
-is_not_refused from to news others events (Overlap pts) w r = absurd (none_some (overlap from to others) pts (each_fits from to news others events w).apart r)
-is_not_refused from to news others events (Uneven a b c) w r = absurd (r.4 (each_fits from to news others events w).even)
+is_not_refused from to news others events (Refused (Overlap pts)) w r = absurd (none_some (overlap from to others) pts (each_fits from to news others events w).apart r)
+is_not_refused from to news others events (Refused (Uneven a b c)) w r = absurd (r.4 (each_fits from to news others events w).even)
 is_not_refused from to news others events Memory w r = refl
 
 -- ---- where the first of the other events stands

@@ -4,10 +4,11 @@ use Rattle.box_events.specs.Events.{EventView, count_of}
 use Rattle.box_events.specs.Boxes.{ending, AreCounted}
 use Rattle.box_events.specs.declared.updates.Placed.{Placed}
 use Rattle.box_events.specs.declared.difference_fault.WeaveFault.{WeaveFault}
-use Rattle.box_events.specs.declared.difference_fault.WeaveFault.TheVariants.{Overlap, Uneven, Memory}
+use Rattle.tl_base.specs.declared.fault.Fault.{Fault}
+use Rattle.tl_base.specs.declared.fault.Fault.TheVariants.{Refused, Memory}
 use Rattle.box_events.specs.Weaving.{Woven, bodies, others_from}
 use Rattle.box_events.specs.Refusal.{AreOthers, Fits, Refuses}
-use Rattle.box_events.specs.Weaves.{overlaps, uneven, woven_of}
+use Rattle.box_events.specs.Weaves.{woven_of}
 
 -- of the same parts one list at most is woven
 abbrev pub IsOneList : Type 0
@@ -29,9 +30,9 @@ abbrev pub HasOthers : Type 0
 HasOthers = (from to : ℕ) (news : List (List ℕ)) (others : List Placed) (events : List EventView)
     → Woven from to news others events → AreOthers others
 
--- where there is a list no fault but that of memory has its cause, so weaving what was split gives the list again
+-- where there is a list no cause holds, so weaving what was split gives the list again
 abbrev pub IsNotRefused : Type 0
-IsNotRefused = (from to : ℕ) (news : List (List ℕ)) (others : List Placed) (events : List EventView) (fault : WeaveFault)
+IsNotRefused = (from to : ℕ) (news : List (List ℕ)) (others : List Placed) (events : List EventView) (fault : Fault WeaveFault)
     → Woven from to news others events → Refuses from to news others fault → fault ≡ Memory
 
 -- each list has parts
@@ -57,11 +58,10 @@ abbrev pub Reaches : Type 0
 Reaches = (from to : ℕ) (news : List (List ℕ)) (others : List Placed) (events : List EventView)
     → woven_of from to news others ≡ Ok events → from + ending events ≡ to
 
--- each fault but that of memory is why no list is made; and where memory is asked for, one is made
+-- a cause is why no list is made; and where memory is asked for, one is made
 abbrev pub IsWhy : Type 0
 IsWhy = (from to : ℕ) (news : List (List ℕ)) (others : List Placed)
-    → ((pts : ℕ) → Refuses from to news others (Overlap pts) → woven_of from to news others ≡ Err (overlaps pts))
-    × ((a b c : ℕ) → Refuses from to news others (Uneven a b c) → woven_of from to news others ≡ Err (uneven a b c))
+    → ((cause : WeaveFault) → Refuses from to news others (Refused cause) → woven_of from to news others ≡ Err cause)
     × (Refuses from to news others Memory → IsOk (woven_of from to news others))
 
 -- each other event counts for 1 number at least

@@ -3,7 +3,9 @@ use Rattle.std.specs.Prelude.{◌≡◌, ◌≢◌, ℕ, ◌+◌, List, [], ◌�
 use Rattle.box_events.specs.Events.{count_of, is_new}
 use Rattle.box_events.specs.declared.updates.Placed.{Placed}
 use Rattle.box_events.specs.declared.difference_fault.WeaveFault.{WeaveFault}
-use Rattle.box_events.specs.declared.difference_fault.WeaveFault.TheVariants.{Overlap, Uneven, Memory}
+use Rattle.box_events.specs.declared.difference_fault.WeaveFault.TheVariants.{Overlap, Uneven}
+use Rattle.tl_base.specs.declared.fault.Fault.{Fault}
+use Rattle.tl_base.specs.declared.fault.Fault.TheVariants.{Refused, Memory}
 
 -- each is no message
 abbrev pub AreOthers : List Placed → Type 0
@@ -29,9 +31,9 @@ pub record Fits (from to : ℕ) (news : List (List ℕ)) (others : List Placed) 
   pub apart : overlap from to others ≡ None
   pub even : from + covered news others ≡ to
 
--- each fault's cause; only where the parts fit is memory asked for
-abbrev pub Refuses : ℕ → ℕ → List (List ℕ) → List Placed → WeaveFault → Type 0
-Refuses from to news others (Overlap pts) = overlap from to others ≡ Some pts
-Refuses from to news others (Uneven a b c) =
+-- why each is answered; only where the parts fit is memory asked for
+abbrev pub Refuses : ℕ → ℕ → List (List ℕ) → List Placed → Fault WeaveFault → Type 0
+Refuses from to news others (Refused (Overlap pts)) = overlap from to others ≡ Some pts
+Refuses from to news others (Refused (Uneven a b c)) =
     (overlap from to others ≡ None) × (a ≡ from) × (b ≡ covered news others) × (c ≡ to) × (from + covered news others ≢ to)
 Refuses from to news others Memory = Fits from to news others

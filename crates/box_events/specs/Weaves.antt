@@ -3,6 +3,8 @@
 use Rattle.std.specs.Prelude.{ℕ, ◌+◌, ◌-◌, List, [], ◌∷◌, ◌++◌, map, take, drop, Bool, true, false, eqb, Option, Some, None, Result, Ok, Err}
 use Rattle.box_events.specs.Events.{EventView, added, count_of}
 use Rattle.box_events.specs.declared.updates.Placed.{Placed}
+use Rattle.box_events.specs.declared.difference_fault.WeaveFault.{WeaveFault}
+use Rattle.box_events.specs.declared.difference_fault.WeaveFault.TheVariants.{Overlap, Uneven}
 use Rattle.box_events.specs.Refusal.{overlap, covered}
 
 -- how many numbers are free before an event, where what stands before it ends at `at`
@@ -14,17 +16,12 @@ abbrev pub merged : ℕ → List (List ℕ) → List Placed → List EventView
 merged at news [] = map added news
 merged at news (o ∷ os) = map added (take (free at o) news) ++ o.event ∷ merged o.pts (drop (free at o) news) os
 
--- why there is no list: an event that ends there overlaps, or the numbers from one on that are counted for don't reach the other
-pub data WeaveCause : Type 0 where
-  overlaps : ℕ → WeaveCause
-  uneven : ℕ → ℕ → ℕ → WeaveCause
-
 -- the list or its cause, by where an event overlaps and whether the counts are even
-abbrev pub woven_when : Option ℕ → Bool → ℕ → ℕ → List (List ℕ) → List Placed → Result (List EventView) WeaveCause
-woven_when (Some pts) even from to news others = Err (overlaps pts)
-woven_when None false from to news others = Err (uneven from (covered news others) to)
+abbrev pub woven_when : Option ℕ → Bool → ℕ → ℕ → List (List ℕ) → List Placed → Result (List EventView) WeaveFault
+woven_when (Some pts) even from to news others = Err (Overlap pts)
+woven_when None false from to news others = Err (Uneven from (covered news others) to)
 woven_when None true from to news others = Ok (merged from news others)
 
 -- the list from one number to the other
-unfoldable pub woven_of : ℕ → ℕ → List (List ℕ) → List Placed → Result (List EventView) WeaveCause
+unfoldable pub woven_of : ℕ → ℕ → List (List ℕ) → List Placed → Result (List EventView) WeaveFault
 woven_of from to news others = woven_when (overlap from to others) (eqb (from + covered news others) to) from to news others

@@ -1,5 +1,4 @@
 //! Why messages and other events make no list.
-use std::alloc::AllocError;
 use thiserror::Error;
 
 /// Why messages and other events make no list of events.
@@ -11,17 +10,4 @@ pub enum WeaveFault {
     /// The messages and the other events count for `covered` numbers, and `from` with these is not `to`.
     #[error("{covered} numbers from {from} are not {to}")]
     Uneven { from: u32, covered: u32, to: u32 },
-    #[error("out of memory")]
-    Memory,
-}
-
-impl From<AllocError> for WeaveFault {
-    ghost use Rattle.std.specs.Prelude.{◌≡◌};
-    ghost use Rattle.box_events.specs.declared.difference_fault.WeaveFault.TheVariants.{Memory};
-
-    ghost from_gives = { λ _ e. e ≡ Memory };
-
-    fn from(_e: AllocError) -> WeaveFault {
-        WeaveFault::Memory
-    }
 }

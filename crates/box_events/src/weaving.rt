@@ -9,7 +9,7 @@ use crate::difference_fault::WeaveFault;
 use crate::{Event, ListOf, MAX_END, Placed};
 use std::alloc::Global;
 use std::vec::IntoIter;
-use tl_base::Bytes;
+use tl_base::{Bytes, Fault};
 
 /// The list of events from one number of a box to another that has these messages, by their bodies, and these other events, by where they end
 /// ("Working with Updates", core.telegram.org/api/updates: pts and pts_count). Each message counts for one number and stands in the first that the
@@ -20,7 +20,7 @@ pub fn weave(
     to: u32,
     news: ListOf<Bytes>,
     others: ListOf<Placed>,
-) -> Result<Vec<Event>, WeaveFault>
+) -> Result<Vec<Event>, Fault<WeaveFault>>
     requires from { from ≤ MAX_END }
     requires to { to ≤ MAX_END }
     requires few { length news < 2 ^ 31 }
@@ -32,10 +32,10 @@ pub fn weave(
     let others = others.into_vec();
     let covered = match covered_between(&others, from, to) {
         Ok(counts) => counts + news.len() as u32,
-        Err(pts) => return Err(WeaveFault::Overlap { pts }),
+        Err(pts) => return Err(Fault::Refused(WeaveFault::Overlap { pts })),
     };
     if from + covered != to {
-        return Err(WeaveFault::Uneven { from, covered, to });
+        return Err(Fault::Refused(WeaveFault::Uneven { from, covered, to }));
     }
     let events = Vec::with_capacity(alloc, news.len() + others.len())?;
     Ok(merge(events, from, news, others))

@@ -22,7 +22,8 @@ use Rattle.pts_machine.specs.Steps.{extend, settle, restart_at}
 use Rattle.pts_machine.proofs.Fitting.{fits_after, fits_extend, fits_reaches, fits_restart}
 use Rattle.pts_machine.proofs.Moves.{restart_up}
 use Rattle.box_events.specs.Weaving.{bodies, others_from}
-use Rattle.box_events.specs.Weaves.{WeaveCause, woven_of}
+use Rattle.box_events.specs.Weaves.{woven_of}
+use Rattle.box_events.specs.declared.difference_fault.WeaveFault.{WeaveFault}
 use Rattle.channel_box.specs.States.{ChannelState, first}
 use Rattle.channel_box.specs.Steps.{at_first, asks_number, is_asking, grown, Answered, stale, refused, taken, taken_by, answered_by, answered}
 use Rattle.channel_box.specs.Steps as channels
@@ -291,7 +292,7 @@ goes_taken s boxes c n d v prefix t a = record {
 
 pub answered_is : (c : ClientState) (n : ℕ) (d : ChannelState) (v : ChannelReply) (e : ChannelState) → first (asks_number n) c.channels ≡ Some d → channels.replied d v ≡ Ok e
     → by_channels c (answered c.channels n v) ≡ becomes (record c { channels = at_first (asks_number n) (λ _. e) c.channels })
-answered_is c n d v e f is = ap (λ (o : Option ChannelState). by_channels c (answered_by c.channels n v o)) f ∙ ap (λ (o : Result ChannelState WeaveCause). by_channels c (taken_by c.channels n o)) is
+answered_is c n d v e f is = ap (λ (o : Option ChannelState). by_channels c (answered_by c.channels n v o)) f ∙ ap (λ (o : Result ChannelState WeaveFault). by_channels c (taken_by c.channels n o)) is
 
 -- the answer to a channel's own request, by an earlier server
 pub told_channel : (m s : ServerState) (bm boxes : Boxes) (c : ClientState) (n : ℕ) (d : ChannelState) → IsLedger m bm → IsLedger s boxes → Continues m s bm boxes → Agrees s boxes c

@@ -13,7 +13,8 @@ use Rattle.box_events.specs.declared.replies.Reply.{Reply}
 use Rattle.box_events.specs.declared.replies.Reply.TheVariants as reply
 use Rattle.pts_machine.specs.declared.mode.Mode.TheVariants.{Live}
 use Rattle.pts_machine.specs.Steps.{settle, hear}
-use Rattle.box_events.specs.Weaves.{WeaveCause, woven_of}
+use Rattle.box_events.specs.Weaves.{woven_of}
+use Rattle.box_events.specs.declared.difference_fault.WeaveFault.{WeaveFault}
 use Rattle.pts_machine.specs.Packs.{Pack, last_date, pack_of, puts}
 use Rattle.pts_machine.specs.SeqStates.{SettingsState, hear_pack, overlaid, lane_of}
 use Rattle.channel_box.specs.States.{first}
@@ -97,7 +98,7 @@ taken_goes : (back : Bool) (c : ClientState) (b : Received) (xs ys : List EventV
 taken_goes true c b xs ys d is low h = absurd cc
 taken_goes false c b xs ys d is low h = subst IsDatedClient (becomes_is (group_done b.last c b xs ys) d is) (done_goes b.last c b xs ys low h)
 
-woven_goes : (c : ClientState) (b : Received) (o p : Result (List EventView) WeaveCause) (d : ClientState) → group_woven c b o p ≡ becomes d → b.state.date < 2 ^ 31 → IsDatedClient c → IsDatedClient d
+woven_goes : (c : ClientState) (b : Received) (o p : Result (List EventView) WeaveFault) (d : ClientState) → group_woven c b o p ≡ becomes d → b.state.date < 2 ^ 31 → IsDatedClient c → IsDatedClient d
 woven_goes c b (Err cause) p d is low h = absurd cc
 woven_goes c b (Ok xs) (Err cause) d is low h = absurd cc
 woven_goes c b (Ok xs) (Ok ys) d is low h = taken_goes (b.last && ltb b.state.seq c.settings.at) c b xs ys d is low h

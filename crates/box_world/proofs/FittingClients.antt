@@ -28,7 +28,8 @@ use Rattle.pts_machine.specs.Chains.{chain}
 use Rattle.pts_machine.specs.Steps.{settle, hear, extend, restart_at, resumed, forget, asked, new_lane, Hears}
 use Rattle.pts_machine.proofs.Ends.{look, none_at, some_at}
 use Rattle.pts_machine.proofs.Kept.{hears}
-use Rattle.box_events.specs.Weaves.{WeaveCause, free, merged, woven_of, woven_when}
+use Rattle.box_events.specs.Weaves.{free, merged, woven_of, woven_when}
+use Rattle.box_events.specs.declared.difference_fault.WeaveFault.{WeaveFault}
 use Rattle.box_events.specs.Refusal.{overlap, covered}
 use Rattle.pts_machine.specs.Packs.{Pack, pack_of, puts, puts_all}
 use Rattle.pts_machine.specs.SeqStates.{SettingsState, hear_pack, overlaid, lane_of}
@@ -278,7 +279,7 @@ taken_goes : (back : Bool) (c : ClientState) (b : Received) (xs ys : List EventV
 taken_goes true c b xs ys d is h all x y = absurd cc
 taken_goes false c b xs ys d is h all x y = subst FitsClient (becomes_is (group_done b.last c b xs ys) d is) (done_goes b.last c b xs ys h all x y)
 
-woven_goes : (c : ClientState) (b : Received) (o p : Result (List EventView) WeaveCause) (d : ClientState) → group_woven c b o p ≡ becomes d → FitsClient c → FitsReceived b → ((xs : List EventView) → o ≡ Ok xs → All FitsEvent xs) → ((ys : List EventView) → p ≡ Ok ys → All FitsEvent ys) → FitsClient d
+woven_goes : (c : ClientState) (b : Received) (o p : Result (List EventView) WeaveFault) (d : ClientState) → group_woven c b o p ≡ becomes d → FitsClient c → FitsReceived b → ((xs : List EventView) → o ≡ Ok xs → All FitsEvent xs) → ((ys : List EventView) → p ≡ Ok ys → All FitsEvent ys) → FitsClient d
 woven_goes c b (Err cause) p d is h f x y = absurd cc
 woven_goes c b (Ok xs) (Err cause) d is h f x y = absurd cc
 woven_goes c b (Ok xs) (Ok ys) d is h f x y = taken_goes (b.last && ltb b.state.seq c.settings.at) c b xs ys d is h f.settings (x xs refl) (y ys refl)
@@ -297,7 +298,7 @@ group_goes c (reply.Receipt receipt) d is h f = absurd cc
 group_goes c (reply.Error code text) d is h f = absurd cc
 
 -- a channel after an answer
-grown_fits : (c : ChannelState) (last : Bool) (o : Result (List EventView) WeaveCause) (d : ChannelState) → boxes.grown c last o ≡ Ok d → FitsChannel c → ((xs : List EventView) → o ≡ Ok xs → All FitsEvent xs) → FitsChannel d
+grown_fits : (c : ChannelState) (last : Bool) (o : Result (List EventView) WeaveFault) (d : ChannelState) → boxes.grown c last o ≡ Ok d → FitsChannel c → ((xs : List EventView) → o ≡ Ok xs → All FitsEvent xs) → FitsChannel d
 grown_fits c last (Err cause) d is h x = absurd cc
 grown_fits c last (Ok xs) d is h x = subst FitsChannel (ok_is _ d is) (record { id = h.id; lane = extend_all FitsEvent count_of c.lane xs last h.lane (x xs refl); recent = h.recent })
 
@@ -306,7 +307,7 @@ channel_fits c (channel.Empty pts last) d is h f = grown_fits c last (woven_of c
 channel_fits c (channel.Part pts news others last) d is h f = grown_fits c last (woven_of c.lane.at pts news others) d is h (λ xs e. woven_all c.lane.at pts news others xs e f.1.1 f.2.1)
 channel_fits c (channel.TooLong pts recent last) d is h f = subst FitsChannel (ok_is _ d is) (record { id = h.id; lane = restart_all FitsEvent count_of c.lane pts h.lane; recent = f.1 })
 
-by_channel : (c : ClientState) (n : ℕ) (o : Result ChannelState WeaveCause) (d : ClientState) → by_channels c (boxes.taken_by c.channels n o) ≡ becomes d → FitsClient c → ((e : ChannelState) → o ≡ Ok e → FitsChannel e) → FitsClient d
+by_channel : (c : ClientState) (n : ℕ) (o : Result ChannelState WeaveFault) (d : ClientState) → by_channels c (boxes.taken_by c.channels n o) ≡ becomes d → FitsClient c → ((e : ChannelState) → o ≡ Ok e → FitsChannel e) → FitsClient d
 by_channel c n (Err cause) d is h law = absurd cc
 by_channel c n (Ok e) d is h law =
     subst FitsClient (becomes_is _ d is) (record { common = h.common; secret = h.secret; settings = h.settings; channels = at_first_fits (boxes.asks_number n) (λ x. e) c.channels (λ x g. law e refl) h.channels })

@@ -1,12 +1,11 @@
 -- A world's numbers follow from numbers alone.
-use Rattle.std.proofs.Common.{◌≡◌, ℕ, zero, suc, ◌+◌, ℤ, List, [], ◌∷◌, ◌++◌, map as each, set, Bool, true, false, cond, eqb, ltb, is_some, Option, Some, None, refl, sym, ap, ap₂, ◌∙◌, subst, arith}
+use Rattle.std.proofs.Common.{◌≡◌, ℕ, zero, suc, ◌+◌, ℤ, List, [], ◌∷◌, ◌++◌, map as each, set, Bool, true, false, cond, eqb, ltb, is_some, Option, Some, None, refl, sym, ap, ap₂, ◌∙◌, subst}
 use Rattle.std.specs.Prelude.{slice_get}
 use Rattle.std.specs.Option.{option_map}
 use Rattle.std.specs.FinMap as map
 use Rattle.std.proofs.Math.Seq.{map-set}
 use Rattle.std.proofs.lemmas.List.{length-map}
 use Rattle.std.proofs.lemmas.Option.{slice_get-map}
-use Rattle.box_events.specs.Events.{EventView}
 use Rattle.box_events.specs.declared.limits.TheConstants.{MAX_CHANNELS}
 use Rattle.box_events.specs.declared.positions.Receipt.{Receipt}
 use Rattle.box_events.specs.declared.requests.Numbered.{Numbered}
@@ -23,7 +22,7 @@ use Rattle.box_client.specs.States.{ClientState}
 use Rattle.box_client.specs.Replies.{Outcome, ignored, refuses, becomes, replied}
 use Rattle.box_client.specs.Asking.{group_is_due, difference_of, group_ticked, ticks, wakes, restarted}
 use Rattle.box_client.specs.Laws.{HasNumbers}
-use Rattle.box_client.specs.Numbers.{ChannelNumbers, channel_numbers, ClientNumbers, client_numbers, n_first, n_has_id, n_group_is_due, n_group_asks, n_group_ticked, n_replied, n_wakes, n_client_restarted, n_watched_if}
+use Rattle.box_client.specs.Numbers.{ChannelNumbers, channel_numbers, ClientNumbers, client_numbers, n_first, n_has_id, n_group_asks, n_group_ticked, n_replied, n_wakes, n_client_restarted, n_watched_if}
 use Rattle.box_client.proofs.Mapped.{len_mapped}
 use Rattle.box_client.proofs.NumberSteps.{pushed_numbers, replied_numbers, ticks_numbers, wakes_numbers, restarted_numbers, watched_numbers, new_numbers}
 use Rattle.box_world.specs.Worlds.{Packet, push, request, reply, World, client_steps, post_by, served, after_reply, received, heard, asks, watches, happens, run_from, new_clients, start}
@@ -33,17 +32,12 @@ use Rattle.box_world.specs.Reached.{IsGood, boxes_of}
 use Rattle.box_world.proofs.Replying.{Carries, Told, stale, takes}
 use Rattle.box_world.proofs.Stepping.{advances, good_start, reply_told, same_number}
 use Rattle.box_world.proofs.Worlds.{good_advances}
+use Rattle.box_client.proofs.NumberSteps.{to_none, due_numbers}
 
 -- ---- what a client asks
 
-abbrev to_none : EventView → Unit {0}
-to_none e = tt
-
 abbrev all_numbers : List ChannelState → List ChannelNumbers
 all_numbers = each channel_numbers
-
-due_numbers : (c : ClientState) → group_is_due c ≡ n_group_is_due (client_numbers c)
-due_numbers c = sym (ap (λ (n : ℕ). is_due c.flag n c.common.mode) (omega (arith, len_mapped to_none c.common.held, len_mapped to_none c.secret.held, len_mapped (λ p. p.date) c.settings.held)))
 
 requests_over : (n : ℕ) (d : ChannelState) (ds : List ChannelState) (b : Bool) → channel_is_due d ≡ b → ((m : ℕ) → (ticked m ds).asks ≡ n_channel_requests m (all_numbers ds))
     → (ticked n (d ∷ ds)).asks ≡ cond b (ask_of d n ∷ n_channel_requests (n + 1) (all_numbers ds)) (n_channel_requests n (all_numbers ds))

@@ -15,7 +15,8 @@ use Rattle.box_world.proofs.ChannelReplying.{channel_takes, first_has, is_asked}
 use Rattle.box_world.proofs.Telling.{channel_answer_is, channel_fits}
 use Rattle.box_server.specs.Servers.{ServerState}
 use Rattle.box_client.specs.States.{ClientState}
-use Rattle.box_client.specs.Replies.{Outcome, ignored, becomes, refuses, Cause, replied, group_replied, channel_replied}
+use Rattle.box_client.specs.Replies.{Outcome, ignored, becomes, refuses, replied, group_replied, channel_replied}
+use Rattle.box_client.specs.declared.fault.ClientFault.{ClientFault}
 use Rattle.box_world.specs.Worlds.{reply, World, happens, run_from, run, start, post_by}
 use Rattle.box_world.specs.Agreeing.{Reaches, Boxes}
 use Rattle.box_world.specs.Growing.{Continues}
@@ -38,7 +39,7 @@ packets_fit carries n ss = (good carries n ss).pool
 pub servers_keep_order : Carries → ServersKeepOrder
 servers_keep_order carries n ss = (good carries n ss).ledger
 
-pub never_refused : (s : ServerState) (boxes : Boxes) (c : ClientState) (P : ClientState → Type 0) (o : Outcome) (cause : Cause) → Told s boxes c P o → o ≢ refuses cause
+pub never_refused : (s : ServerState) (boxes : Boxes) (c : ClientState) (P : ClientState → Type 0) (o : Outcome) (cause : ClientFault) → Told s boxes c P o → o ≢ refuses cause
 never_refused s boxes c P o cause (stale is) e = absurd (let w : ignored ≡ refuses cause = sym is ∙ e in cc)
 never_refused s boxes c P o cause (takes d is g past) e = absurd (let w : becomes d ≡ refuses cause = sym is ∙ e in cc)
 

@@ -103,14 +103,14 @@ goes_all p h zero = goes_none p
 goes_all p [] (suc m) = goes_none p
 goes_all p (x ∷ h) (suc m) = goes_then p (done p x) (done_all (done p x) h m) (goes_done p x) (goes_all (done p x) h m)
 
-goes_later : (p : Past) (h : List Doing) (j k : ℕ) → j ≤ k → Goes (done_all p h j) (done_all p h k)
+pub goes_later : (p : Past) (h : List Doing) (j k : ℕ) → j ≤ k → Goes (done_all p h j) (done_all p h k)
 goes_later p h zero k le = goes_all p h k
 goes_later p h (suc j) zero le = absurd (omega (arith, le))
 goes_later p [] (suc j) (suc k) le = goes_none p
 goes_later p (x ∷ h) (suc j) (suc k) le = goes_later (done p x) h j k (omega (arith, le))
 
 -- entry i is done to the server after the first i
-next_is : (p : Past) (h : List Doing) (i : ℕ) (x : Doing) → slice_get h i ≡ Some x → done_all p h (suc i) ≡ done (done_all p h i) x
+pub next_is : (p : Past) (h : List Doing) (i : ℕ) (x : Doing) → slice_get h i ≡ Some x → done_all p h (suc i) ≡ done (done_all p h i) x
 next_is p [] i x is = absurd (none-some x is)
 next_is p (y ∷ h) zero x is = ap (done p) (same_Some y x is)
 next_is p (y ∷ h) (suc i) x is = next_is (done p y) h i x is
@@ -120,13 +120,13 @@ ordered h m = ordered_all first_past h m ledger_start
 
 -- ---- pushes
 
-new_post : (p : Past) (random_id : ℤ) (ps : List Post) → map.get p.server.receipts random_id ≡ None → post_cause p.server ps ≡ None → done p (posts random_id ps) ≡ posted_by p random_id ps None None
+pub new_post : (p : Past) (random_id : ℤ) (ps : List Post) → map.get p.server.receipts random_id ≡ None → post_cause p.server ps ≡ None → done p (posts random_id ps) ≡ posted_by p random_id ps None None
 new_post p random_id ps new none = ap (λ (r : Option Receipt). posted_by p random_id ps r (post_cause p.server ps)) new ∙ ap (posted_by p random_id ps None) none
 
 abbrev Lies : Push → Past → Type 0
 Lies q p = PushLies p.server p.boxes q
 
-honest_lies : (h : List Doing) (k : ℕ) (q : Push) → IsHonestPush h k q → PushLies (past_of h k).server (past_of h k).boxes q
+pub honest_lies : (h : List Doing) (k : ℕ) (q : Push) → IsHonestPush h k q → PushLies (past_of h k).server (past_of h k).boxes q
 honest_lies h k q (of_post i random_id ps lt at new none is) =
     let p : Past = past_of h i in
     let after : Past = past_of h (suc i) in
@@ -152,7 +152,7 @@ told_free : (carries : Carries) (s : ServerState) (boxes : Boxes) (c : ClientSta
 told_free carries s boxes c n v None f k a h = stale refl
 told_free carries s boxes c n v (Some d) f k a h = told_asked carries s boxes c n v d k a f (h (Channel d.id (pos d.lane.at)) refl)
 
-told_whom : (carries : Carries) (s : ServerState) (boxes : Boxes) (c : ClientState) (n : ℕ) (v : Reply) (b : Bool) → IsLedger s boxes → Agrees s boxes c
+pub told_whom : (carries : Carries) (s : ServerState) (boxes : Boxes) (c : ClientState) (n : ℕ) (v : Reply) (b : Bool) → IsLedger s boxes → Agrees s boxes c
     → ((r : Request) → cond b (Some (difference_of c).request) (channel_request (first (asks_number n) c.channels)) ≡ Some r → v ≡ answer s r)
     → Told s boxes c (Reaches s v) (cond b (group_replied c v) (cond (is_some (first (asks_number n) c.channels)) (channel_replied c n v) ignored))
 told_whom carries s boxes c n v true k a h =
@@ -165,11 +165,11 @@ told_whom carries s boxes c n v false k a h = told_free carries s boxes c n v (f
 
 -- ---- frames
 
-record Hears (p : Past) (c : ClientState) (f : Frame) : Type 0 where
+pub record Hears (p : Past) (c : ClientState) (f : Frame) : Type 0 where
   pub agrees : Agrees p.server p.boxes (heard_frame c f)
   pub taken : IsTaken c f
 
-hears : (carries : Carries) (h : List Doing) (c : ClientState) (k : ℕ) (f : Frame) → Agrees (past_of h k).server (past_of h k).boxes c → IsHonestFrame h c k f → Hears (past_of h k) c f
+pub hears : (carries : Carries) (h : List Doing) (c : ClientState) (k : ℕ) (f : Frame) → Agrees (past_of h k).server (past_of h k).boxes c → IsHonestFrame h c k f → Hears (past_of h k) c f
 hears carries h c k (told_push q) a honest =
     let p : Past = past_of h k in
     record { agrees = agree_ticks p.server p.boxes (pushed c q) (goes_pushed p.server p.boxes c q (ordered h k) (honest_lies h k q honest) a).agrees; taken = tt }

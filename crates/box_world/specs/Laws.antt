@@ -15,7 +15,8 @@ use Rattle.box_server.specs.Servers.{ServerState, channel_end, channel_in}
 use Rattle.box_server.specs.Refusing.{post_cause}
 use Rattle.box_server.specs.declared.fault.PostFault.{PostFault}
 use Rattle.box_client.specs.States.{ClientState, new_client}
-use Rattle.box_client.specs.Replies.{Cause, refuses, becomes, replied}
+use Rattle.box_client.specs.Replies.{refuses, becomes, replied}
+use Rattle.box_client.specs.declared.fault.ClientFault.{ClientFault}
 use Rattle.box_client.specs.Ranges.{IsPushInRange, IsReplyInRange}
 use Rattle.box_world.specs.Worlds.{Packet, push, request, reply, World, happens, run, start}
 use Rattle.box_world.specs.Possible.{AllPossible, Possible}
@@ -52,7 +53,7 @@ PacketsFit = (n : ℕ) (steps : List Step) (m : ℕ) (p : Packet) → slice_get 
 
 -- no client refuses a reply that was sent to it, whenever it comes
 abbrev pub RepliesAreTaken : Type 0
-RepliesAreTaken = (n : ℕ) (steps : List Step) (m k number : ℕ) (r : Reply) (s : ServerState) (c : ClientState) (cause : Cause) → slice_get (run n steps).pool m ≡ Some (reply k number r s)
+RepliesAreTaken = (n : ℕ) (steps : List Step) (m k number : ℕ) (r : Reply) (s : ServerState) (c : ClientState) (cause : ClientFault) → slice_get (run n steps).pool m ≡ Some (reply k number r s)
     → slice_get (run n steps).clients k ≡ Some c → replied c number r ≢ refuses cause
 
 -- with the last part of a difference, whenever it comes, a client stands at or past where the server was when it answered

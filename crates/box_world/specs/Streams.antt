@@ -20,7 +20,8 @@ use Rattle.box_server.specs.Answers.{answer}
 use Rattle.box_server.specs.Growing.{channel_events}
 use Rattle.box_client.specs.States.{ClientState}
 use Rattle.box_client.specs.Pushes.{pushed}
-use Rattle.box_client.specs.Replies.{Cause, refuses, replied}
+use Rattle.box_client.specs.Replies.{refuses, replied}
+use Rattle.box_client.specs.declared.fault.ClientFault.{ClientFault}
 use Rattle.box_client.specs.Asking.{difference_of, ticks, wakes}
 use Rattle.box_world.specs.Worlds.{after_reply}
 use Rattle.box_world.specs.Agreeing.{Boxes, Agrees}
@@ -111,7 +112,7 @@ Honest h c m (f ∷ fs) = (k : ℕ) × (m ≤ k) × (k ≤ length h) × IsHonest
 
 abbrev pub IsTaken : ClientState → Frame → Type 0
 IsTaken c (told_push p) = Unit {0}
-IsTaken c (told_reply n v) = (cause : Cause) → replied c n v ≢ refuses cause
+IsTaken c (told_reply n v) = (cause : ClientFault) → replied c n v ≢ refuses cause
 
 -- before and after each frame the client agrees, and it refuses none
 abbrev pub AgreesThrough : Past → ClientState → List Frame → Type 0

@@ -7,7 +7,8 @@ use Rattle.box_events.specs.declared.updates.Placed.{Placed}
 use Rattle.pts_machine.specs.States.{LaneState}
 use Rattle.pts_machine.specs.Steps.{extend}
 use Rattle.box_events.specs.declared.difference_fault.WeaveFault.{WeaveFault}
-use Rattle.box_events.specs.declared.difference_fault.WeaveFault.TheVariants.{Overlap, Uneven, Memory}
+use Rattle.tl_base.specs.declared.fault.Fault.{Fault}
+use Rattle.tl_base.specs.declared.fault.Fault.TheVariants.{Refused, Memory}
 use Rattle.box_events.specs.Weaving.{Woven}
 use Rattle.box_events.specs.Refusal.{Refuses}
 use Rattle.box_events.specs.Weaves.{woven_of}
@@ -26,9 +27,8 @@ few_counted (x ∷ xs) c = omega (arith, c.0, few_counted xs c.1)
 
 -- what is woven of a lane's answer, and what its refusal is
 
-pub grown_err : (a : ChannelState) (to : ℕ) (news : List (List ℕ)) (others : List Placed) (last : Bool) (fault : WeaveFault) (y : ChannelState) → Refuses a.lane.at to news others fault → y ≡ a → Comes a (grown a last (woven_of a.lane.at to news others)) (Err fault) y
-grown_err a to news others last (Overlap pts) y r same = (ap (grown a last) ((is_why a.lane.at to news others).0 pts r), same)
-grown_err a to news others last (Uneven p q s) y r same = (ap (grown a last) ((is_why a.lane.at to news others).1 p q s r), same)
+pub grown_err : (a : ChannelState) (to : ℕ) (news : List (List ℕ)) (others : List Placed) (last : Bool) (fault : Fault WeaveFault) (y : ChannelState) → Refuses a.lane.at to news others fault → y ≡ a → Comes a (grown a last (woven_of a.lane.at to news others)) (Err fault) y
+grown_err a to news others last (Refused cause) y r same = (ap (grown a last) ((is_why a.lane.at to news others).0 cause r), same)
 grown_err a to news others last Memory y r same = same
 
 pub grown_ok : (a : ChannelState) (to : ℕ) (news : List (List ℕ)) (others : List Placed) (last : Bool) (events : List EventView) (lane : LaneState EventView) → Woven a.lane.at to news others events → lane ≡ extend count_of a.lane events last → grown a last (woven_of a.lane.at to news others) ≡ Ok (record a { lane = lane })

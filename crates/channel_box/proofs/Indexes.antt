@@ -4,10 +4,11 @@ use native.Mathlib.Numerals.{add-one}
 use Rattle.box_events.specs.Events.{EventView, count_of}
 use Rattle.box_events.specs.declared.replies.ChannelReply.{ChannelReply}
 use Rattle.box_events.specs.declared.replies.ChannelReply.TheVariants.{Empty, Part, TooLong}
-use Rattle.box_events.specs.Weaves.{WeaveCause, woven_of}
+use Rattle.box_events.specs.Weaves.{woven_of}
 use Rattle.pts_machine.specs.Steps.{extend, restart_at}
 use Rattle.box_events.specs.declared.difference_fault.WeaveFault.{WeaveFault}
-use Rattle.box_events.specs.declared.difference_fault.WeaveFault.TheVariants.{Overlap, Uneven, Memory}
+use Rattle.tl_base.specs.declared.fault.Fault.{Fault}
+use Rattle.tl_base.specs.declared.fault.Fault.TheVariants.{Refused, Memory}
 use Rattle.pts_machine.specs.States.{LaneState}
 use Rattle.channel_box.specs.States.{ChannelState, ChannelView, states, has_id, first, spare_of}
 use Rattle.channel_box.specs.Steps.{at_first, is_watched, asks_number, grown, replied, answered, answered_by, taken_by, taken}
@@ -146,7 +147,7 @@ states_kept = set_same
 some_no : {A : Type 0} (o : Option A) (x : A) → o ≡ Some x → o ≢ None
 some_no o x is none = cc
 
-grown_id : (x : ChannelState) (last : Bool) (o : Result (List EventView) WeaveCause) (y : ChannelState) → grown x last o ≡ Ok y → y.id ≡ x.id
+grown_id : (x : ChannelState) (last : Bool) (o : Result (List EventView) WeaveFault) (y : ChannelState) → grown x last o ≡ Ok y → y.id ≡ x.id
 grown_id x last (Ok events) y is = let one : record x { lane = extend count_of x.lane events last } ≡ y = cc in ap (λ (z : ChannelState). z.id) (sym one)
 grown_id x last (Err cause) y is = absurd cc
 
@@ -155,15 +156,13 @@ taken_id x (Empty pts last) y is = grown_id x last (woven_of x.lane.at pts [] []
 taken_id x (Part pts news others last) y is = grown_id x last (woven_of x.lane.at pts news others) y is
 taken_id x (TooLong pts recent last) y is = let one : record x { lane = restart_at count_of x.lane pts; recent = recent } ≡ y = cc in ap (λ (z : ChannelState). z.id) (sym one)
 
-pub replied_id : (x : ChannelState) (r : ChannelReply) (result : Result (Unit {0}) WeaveFault) (y : ChannelState) → Comes x (replied x r) result y → y.id ≡ x.id
+pub replied_id : (x : ChannelState) (r : ChannelReply) (result : Result (Unit {0}) (Fault WeaveFault)) (y : ChannelState) → Comes x (replied x r) result y → y.id ≡ x.id
 replied_id x r (Ok done) y comes = taken_id x r y comes
-replied_id x r (Err (Overlap pts)) y comes = ap (λ (z : ChannelState). z.id) comes.1
-replied_id x r (Err (Uneven a b c)) y comes = ap (λ (z : ChannelState). z.id) comes.1
+replied_id x r (Err (Refused cause)) y comes = ap (λ (z : ChannelState). z.id) comes.1
 replied_id x r (Err Memory) y comes = ap (λ (z : ChannelState). z.id) comes
 
-pub replies_err : (vs : List ChannelView) (n i : ℕ) (r : ChannelReply) (x y : ChannelView) (fault : WeaveFault) → StandsAt (asks_number n) vs i → x ≡ get_or vs i x → Comes x.state (replied x.state r) (Err fault) y.state → Replies vs n r (Err fault) (set vs i y)
-replies_err vs n i r x y (Overlap pts) at is comes = (ap (answered_by (states vs) n r) (found (asks_number n) vs i x at is) ∙ ap (taken_by (states vs) n) comes.0, set_same vs i x y is comes.1)
-replies_err vs n i r x y (Uneven a b c) at is comes = (ap (answered_by (states vs) n r) (found (asks_number n) vs i x at is) ∙ ap (taken_by (states vs) n) comes.0, set_same vs i x y is comes.1)
+pub replies_err : (vs : List ChannelView) (n i : ℕ) (r : ChannelReply) (x y : ChannelView) (fault : Fault WeaveFault) → StandsAt (asks_number n) vs i → x ≡ get_or vs i x → Comes x.state (replied x.state r) (Err fault) y.state → Replies vs n r (Err fault) (set vs i y)
+replies_err vs n i r x y (Refused cause) at is comes = (ap (answered_by (states vs) n r) (found (asks_number n) vs i x at is) ∙ ap (taken_by (states vs) n) comes.0, set_same vs i x y is comes.1)
 replies_err vs n i r x y Memory at is comes = (some_no (first (asks_number n) (states vs)) x.state (found (asks_number n) vs i x at is), set_same vs i x y is comes)
 
 pub replies_ok : (vs : List ChannelView) (n i : ℕ) (r : ChannelReply) (x y : ChannelView) → StandsAt (asks_number n) vs i → x ≡ get_or vs i x → replied x.state r ≡ Ok y.state → answered (states vs) n r ≡ taken (states (set vs i y))

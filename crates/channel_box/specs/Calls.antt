@@ -7,10 +7,10 @@ use Rattle.box_events.specs.declared.updates.Update.TheVariants.{Common, Secret,
 use Rattle.box_events.specs.declared.replies.ChannelReply.{ChannelReply}
 use Rattle.box_events.specs.declared.replies.ChannelReply.TheVariants.{Empty, Part, TooLong}
 use Rattle.box_events.specs.declared.difference_fault.WeaveFault.{WeaveFault}
-use Rattle.box_events.specs.declared.difference_fault.WeaveFault.TheVariants.{Overlap, Uneven, Memory}
+use Rattle.tl_base.specs.declared.fault.Fault.{Fault}
+use Rattle.tl_base.specs.declared.fault.Fault.TheVariants.{Refused, Memory}
 use Rattle.box_events.specs.Refusal.{AreOthers}
 use Rattle.box_events.specs.DifferenceLaws.{AreCountedOthers}
-use Rattle.box_events.specs.Weaves.{WeaveCause, overlaps, uneven}
 use Rattle.channel_box.specs.declared.fault.WatchFault.{WatchFault}
 use Rattle.channel_box.specs.declared.fault.WatchFault.TheVariants.{Already, TooMany, Memory as NoMemory}
 use Rattle.channel_box.specs.States.{ChannelState, ChannelView, states, first, spare_of}
@@ -24,18 +24,16 @@ Watches old c (Err TooMany) new = (is_watched (states old) c.id ≡ false) × (M
 Watches old c (Err NoMemory) new = (is_watched (states old) c.id ≡ false) × (length old < MAX_CHANNELS) × (new ≡ old)
 
 -- An answer is taken; nobody asks its number; or it is refused, and only where somebody asks is memory asked for.
-abbrev pub Replies : List ChannelView → ℕ → ChannelReply → Result Bool WeaveFault → List ChannelView → Type 0
+abbrev pub Replies : List ChannelView → ℕ → ChannelReply → Result Bool (Fault WeaveFault) → List ChannelView → Type 0
 Replies old n r (Ok true) new = answered (states old) n r ≡ taken (states new)
 Replies old n r (Ok false) new = (answered (states old) n r ≡ stale) × (new ≡ old)
-Replies old n r (Err (Overlap pts)) new = (answered (states old) n r ≡ refused (overlaps pts)) × (states new ≡ states old)
-Replies old n r (Err (Uneven a b c)) new = (answered (states old) n r ≡ refused (uneven a b c)) × (states new ≡ states old)
+Replies old n r (Err (Refused cause)) new = (answered (states old) n r ≡ refused cause) × (states new ≡ states old)
 Replies old n r (Err Memory) new = (first (asks_number n) (states old) ≢ None) × (states new ≡ states old)
 
 -- What comes of an answer to one channel, by what it makes of it: the channel that it makes, or its cause; else all is as before.
-abbrev pub Comes : ChannelState → Result ChannelState WeaveCause → Result (Unit {0}) WeaveFault → ChannelState → Type 0
+abbrev pub Comes : ChannelState → Result ChannelState WeaveFault → Result (Unit {0}) (Fault WeaveFault) → ChannelState → Type 0
 Comes old made (Ok done) new = made ≡ Ok new
-Comes old made (Err (Overlap pts)) new = (made ≡ Err (overlaps pts)) × (new ≡ old)
-Comes old made (Err (Uneven a b c)) new = (made ≡ Err (uneven a b c)) × (new ≡ old)
+Comes old made (Err (Refused cause)) new = (made ≡ Err cause) × (new ≡ old)
 Comes old made (Err Memory) new = new ≡ old
 
 -- no channel has less room

@@ -15,7 +15,8 @@ use Rattle.pts_machine.specs.declared.seen.Seen.{Seen}
 use Rattle.pts_machine.specs.declared.seen.Seen.TheVariants.{Applied, Already, Held, Dropped}
 use Rattle.pts_machine.specs.States.{LaneState}
 use Rattle.pts_machine.specs.Steps.{Heard, hear, extend, restart_at, forget, asked, new_lane}
-use Rattle.box_events.specs.Weaves.{WeaveCause, woven_of}
+use Rattle.box_events.specs.Weaves.{woven_of}
+use Rattle.box_events.specs.declared.difference_fault.WeaveFault.{WeaveFault}
 use Rattle.channel_box.specs.States.{ChannelState, has_id, first}
 
 -- the first channel of which something holds takes a step
@@ -125,13 +126,13 @@ ticked n (c ∷ cs) = cond (channel_is_due c) (and_asks n c (ticked (n + 1) cs))
 abbrev pub asks_number : ℕ → ChannelState → Bool
 asks_number n c = is_asking n c.lane.mode
 
-abbrev pub grown : ChannelState → Bool → Result (List EventView) WeaveCause → Result ChannelState WeaveCause
+abbrev pub grown : ChannelState → Bool → Result (List EventView) WeaveFault → Result ChannelState WeaveFault
 grown c last (Ok events) = Ok (record c { lane = extend count_of c.lane events last })
 grown c last (Err cause) = Err cause
 
 -- A channel after an answer. An empty one is woven of nothing. Where the channel was too far behind, its lane begins anew at the box's end,
 -- and the messages are kept; whether that answer says that it is final isn't looked at.
-abbrev pub replied : ChannelState → ChannelReply → Result ChannelState WeaveCause
+abbrev pub replied : ChannelState → ChannelReply → Result ChannelState WeaveFault
 replied c (Empty pts last) = grown c last (woven_of c.lane.at pts [] [])
 replied c (Part pts news others last) = grown c last (woven_of c.lane.at pts news others)
 replied c (TooLong pts recent last) = Ok (record c { lane = restart_at count_of c.lane pts; recent = recent })
@@ -139,10 +140,10 @@ replied c (TooLong pts recent last) = Ok (record c { lane = restart_at count_of 
 -- what comes of an answer: nobody asks its number, it is refused, or it is taken
 pub data Answered : Type 0 where
   stale : Answered
-  refused : WeaveCause → Answered
+  refused : WeaveFault → Answered
   taken : List ChannelState → Answered
 
-abbrev pub taken_by : List ChannelState → ℕ → Result ChannelState WeaveCause → Answered
+abbrev pub taken_by : List ChannelState → ℕ → Result ChannelState WeaveFault → Answered
 taken_by cs n (Ok c) = taken (at_first (asks_number n) (λ _. c) cs)
 taken_by cs n (Err cause) = refused cause
 

@@ -17,7 +17,7 @@ use box_events::{
 use pts_machine::{Lane, Mode};
 use std::alloc::{AllocError, Global};
 use std::marker::Model;
-use tl_base::{Bytes, Memory};
+use tl_base::{Bytes, Fault, Memory};
 
 /// A channel that is watched.
 pub struct Channel {
@@ -166,7 +166,7 @@ impl Channel {
         }
     }
 
-    pub fn reply(&mut self, alloc: Global, reply: ChannelReply) -> Result<(), WeaveFault>
+    pub fn reply(&mut self, alloc: Global, reply: ChannelReply) -> Result<(), Fault<WeaveFault>>
         requires range { IsInRange reply }
         ensures step { Comes self.old.state (replied self.old.state reply) result self.new.state }
     {
@@ -195,7 +195,7 @@ impl Channel {
         news: ListOf<Bytes>,
         others: ListOf<Placed>,
         last: bool,
-    ) -> Result<(), WeaveFault>
+    ) -> Result<(), Fault<WeaveFault>>
         requires to { to ≤ MAX_END }
         requires few { length news < 2 ^ 31 }
         requires others { AreOthers others }

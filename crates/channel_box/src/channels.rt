@@ -18,7 +18,7 @@ use box_events::{Asks, ChannelReply, Event, ListOf, MAX_CHANNELS, MAX_END, Updat
 use pts_machine::Lane;
 use std::alloc::Global;
 use std::marker::Model;
-use tl_base::{Bytes, Memory};
+use tl_base::{Bytes, Fault, Memory};
 
 /// The channels that a client watches, 64 at most, in order of watching.
 pub struct Channels {
@@ -158,7 +158,7 @@ impl Channels {
         alloc: Global,
         number: u32,
         reply: ChannelReply,
-    ) -> Result<bool, WeaveFault>
+    ) -> Result<bool, Fault<WeaveFault>>
         requires range { IsInRange reply }
         ensures step { Replies self.old number reply result self.new }
     {

@@ -10,7 +10,7 @@ ghost use Rattle.channel_box.specs.Steps.{is_dropped};
 use box_events::{Event, ListOf, MAX_END, Placed, WeaveFault, weave};
 use pts_machine::{Lane, Seen};
 use std::alloc::Global;
-use tl_base::Bytes;
+use tl_base::{Bytes, Fault};
 
 /// The events that an answer brings from a lane's position to another, with room for them in the lane. The lane stays as it was.
 pub fn weave_onto(
@@ -19,7 +19,7 @@ pub fn weave_onto(
     to: u32,
     news: ListOf<Bytes>,
     others: ListOf<Placed>,
-) -> Result<Vec<Event>, WeaveFault>
+) -> Result<Vec<Event>, Fault<WeaveFault>>
     requires to { to ≤ MAX_END }
     requires few { length news < 2 ^ 31 }
     requires others { AreOthers others }

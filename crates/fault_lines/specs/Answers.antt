@@ -1,5 +1,5 @@
--- The lines of answers that a client refuses. Out of memory has none. This project's own.
-use Rattle.std.specs.Prelude.{List, ◌++◌, ℕ, Option, Some, None, option_map, codes, decimal}
+-- The lines of answers that a client refuses. This project's own.
+use Rattle.std.specs.Prelude.{List, ◌++◌, ℕ, codes, decimal}
 use Rattle.std.specs.Fmt.{signed_decimal}
 use Rattle.outside.specs.Answer.{unplaced_line}
 use Rattle.box_events.specs.declared.difference_fault.WeaveFault.{WeaveFault}
@@ -15,18 +15,16 @@ abbrev pub seq_words : ℕ → ℕ → List ℕ
 seq_words at seq = ((codes "SeqBack " ++ decimal at) ++ codes " ") ++ decimal seq
 
 -- why events make no list, with its numbers
-abbrev pub weave_words : WeaveFault → Option (List ℕ)
-weave_words (weave.Overlap pts) = Some (codes "Overlap " ++ decimal pts)
-weave_words (weave.Uneven from covered to) = Some (uneven_words from covered to)
-weave_words weave.Memory = None
+abbrev pub weave_words : WeaveFault → List ℕ
+weave_words (weave.Overlap pts) = codes "Overlap " ++ decimal pts
+weave_words (weave.Uneven from covered to) = uneven_words from covered to
 
 -- the cause, and its values
-abbrev pub answer_words : ClientFault → Option (List ℕ)
-answer_words (client.PeerError code) = Some (codes "PeerError " ++ signed_decimal code)
-answer_words client.WrongKind = Some (codes "WrongKind")
+abbrev pub answer_words : ClientFault → List ℕ
+answer_words (client.PeerError code) = codes "PeerError " ++ signed_decimal code
+answer_words client.WrongKind = codes "WrongKind"
 answer_words (client.Weave fault) = weave_words fault
-answer_words (client.SeqBack at seq) = Some (seq_words at seq)
-answer_words client.Memory = None
+answer_words (client.SeqBack at seq) = seq_words at seq
 
-abbrev pub answer_line : ClientFault → Option (List ℕ)
-answer_line fault = option_map (unplaced_line (codes "peer")) (answer_words fault)
+abbrev pub answer_line : ClientFault → List ℕ
+answer_line fault = unplaced_line (codes "peer") (answer_words fault)

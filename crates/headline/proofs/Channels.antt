@@ -14,7 +14,8 @@ use Rattle.box_events.specs.declared.updates.Push.{Push}
 use Rattle.box_events.specs.declared.updates.Push.TheVariants.{TooLong, Container}
 use Rattle.box_events.specs.declared.updates.Update.{Update}
 use Rattle.box_events.specs.declared.updates.Update.TheVariants.{Common, Secret, Channel, ChannelTooLong, Setting as SettingUpdate}
-use Rattle.box_events.specs.Weaves.{WeaveCause, woven_of}
+use Rattle.box_events.specs.Weaves.{woven_of}
+use Rattle.box_events.specs.declared.difference_fault.WeaveFault.{WeaveFault}
 use Rattle.pts_machine.specs.Chains.{EndsAfter}
 use Rattle.pts_machine.specs.declared.mode.Mode.{Mode}
 use Rattle.pts_machine.specs.declared.mode.Mode.TheVariants.{Live, Asking, Again}
@@ -169,10 +170,10 @@ pub record Answered (c : ClientState) (n : ℕ) (v : Reply) (whole : Boxes) (x :
 answered_same : (c : ClientState) (n : ℕ) (v : Reply) (whole : Boxes) (x : ChannelState) (ds : List ChannelState) (i : ℕ) → slice_get ds i ≡ Some x → Answered c n v whole x ds i
 answered_same c n v whole x ds i is = record { channel = x; is = is; id = refl; up = omega arith; how = inl refl }
 
-pub same_channel : (a b : ChannelState) → ◌≡◌ {A = Result ChannelState WeaveCause} (Ok a) (Ok b) → a ≡ b
+pub same_channel : (a b : ChannelState) → ◌≡◌ {A = Result ChannelState WeaveFault} (Ok a) (Ok b) → a ≡ b
 same_channel a b e = cc
 
-up_grown : (x y : ChannelState) (last : Bool) (w : Result (List EventView) WeaveCause) → grown x last w ≡ Ok y → EndsAfter x.lane.held → x.lane.at ≤ y.lane.at
+up_grown : (x y : ChannelState) (last : Bool) (w : Result (List EventView) WeaveFault) → grown x last w ≡ Ok y → EndsAfter x.lane.held → x.lane.at ≤ y.lane.at
 up_grown x y last (Ok xs) e after =
     let same : record x { lane = extend count_of x.lane xs last } ≡ y = same_channel _ y e in
     omega (arith, extend_up count_of x.lane xs last after, ap (λ (d : ChannelState). d.lane.at) same)
@@ -203,7 +204,7 @@ taken_channels : (t : Bool) (c : ClientState) (b : Received) (xs ys : List Event
 taken_channels true c b xs ys = refl
 taken_channels false c b xs ys = done_channels b.last c b xs ys
 
-woven_channels : (c : ClientState) (b : Received) (o p : Result (List EventView) WeaveCause) → (after_reply c (group_woven c b o p)).channels ≡ c.channels
+woven_channels : (c : ClientState) (b : Received) (o p : Result (List EventView) WeaveFault) → (after_reply c (group_woven c b o p)).channels ≡ c.channels
 woven_channels c b (Err cause) p = refl
 woven_channels c b (Ok xs) (Err cause) = refl
 woven_channels c b (Ok xs) (Ok ys) = taken_channels (b.last && ltb b.state.seq c.settings.at) c b xs ys

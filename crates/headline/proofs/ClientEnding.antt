@@ -26,7 +26,8 @@ use Rattle.update_sessions.specs.Honest.{told_all}
 use Rattle.session_commands.specs.Client.{ClientAnswer, HasClient, OfSession, OfState, OfStateFile, client_line, failed, no_client, recovered, too_many, watch_all, watches}
 use Rattle.session_commands.specs.Linked.{next_link}
 use Rattle.commands.specs.Requests.{AsksFor, RequestText, client}
-use Rattle.run_laws.specs.Ended.{LinkFailed, ReadFailed, WriteFailed}
+use Rattle.outside.specs.Events.{Event}
+use Rattle.run_laws.specs.Ended.{LinkFailed}
 use Rattle.run_laws.specs.Requests.{job_of}
 use Rattle.run_laws.specs.Runs.{Ends, MayAnswer, answered, link_failed, out_of_memory, out_of_memory_later, out_of_memory_told, read_failed, read_failed_later, write_failed}
 use Rattle.run_laws.proofs.Endings.{words_end}
@@ -164,21 +165,21 @@ answer_is : (words : List (List ℕ)) (schema_name address state_name : List ℕ
 answer_is words schema_name address state_name channels L v a asks (inl h) ends = answer_to words v (client schema_name address state_name channels) a asks h
 answer_is words schema_name address state_name channels L v a asks (inr (rose, r, also, broken)) ends = absurd (broken_link words schema_name address state_name channels v a r asks also broken ends)
 
-pub client_ends : (words : List (List ℕ)) (schema_name address state_name : List ℕ) (channels : List ℤ) (R W L : Type 0) (v w : View) (schema state : List ℕ) → AsksFor words (client schema_name address state_name channels) → HasFile v.files schema_name schema → HasFile v.files state_name state
-    → Ends words R W L Done v w → Ran schema state_name channels state v w
-client_ends words schema_name address state_name channels R W L v w schema state asks has holds (answered a may ends output leaves tells) =
-    of_answer schema state_name channels state v w address schema_name a has holds (answer_is words schema_name address state_name channels L v a asks may ends) ends output leaves
-client_ends words schema_name address state_name channels R W L v w schema state asks has holds (read_failed one rose is output tells) = absurd (not_read is)
-client_ends words schema_name address state_name channels R W L v w schema state asks has holds (read_failed_later rose is s on) = absurd (not_read is)
-client_ends words schema_name address state_name channels R W L v w schema state asks has holds (write_failed rose is s) = absurd (not_write is)
-client_ends words schema_name address state_name channels R W L v w schema state asks has holds (link_failed rose is s) = absurd (not_link is)
-client_ends words schema_name address state_name channels R W L v w schema state asks has holds (out_of_memory is output tells) = absurd (not_memory is)
-client_ends words schema_name address state_name channels R W L v w schema state asks has holds (out_of_memory_later is s pieces) = absurd (not_memory is)
-client_ends words schema_name address state_name channels R W L v w schema state asks has holds (out_of_memory_told is r also tells u before told) = absurd (not_memory is)
+pub client_ends : (words : List (List ℕ)) (schema_name address state_name : List ℕ) (channels : List ℤ) (t : List Event) (v w : View) (schema state : List ℕ) → AsksFor words (client schema_name address state_name channels) → HasFile v.files schema_name schema → HasFile v.files state_name state
+    → Ends words t Done v w → Ran schema state_name channels state v w
+client_ends words schema_name address state_name channels t v w schema state asks has holds (answered a may ends output leaves tells) =
+    of_answer schema state_name channels state v w address schema_name a has holds (answer_is words schema_name address state_name channels (LinkFailed t) v a asks may ends) ends output leaves
+client_ends words schema_name address state_name channels t v w schema state asks has holds (read_failed one rose is output tells) = absurd (not_read is)
+client_ends words schema_name address state_name channels t v w schema state asks has holds (read_failed_later rose is s on) = absurd (not_read is)
+client_ends words schema_name address state_name channels t v w schema state asks has holds (write_failed rose is s) = absurd (not_write is)
+client_ends words schema_name address state_name channels t v w schema state asks has holds (link_failed rose is s) = absurd (not_link is)
+client_ends words schema_name address state_name channels t v w schema state asks has holds (out_of_memory is output tells) = absurd (not_memory is)
+client_ends words schema_name address state_name channels t v w schema state asks has holds (out_of_memory_later is s pieces) = absurd (not_memory is)
+client_ends words schema_name address state_name channels t v w schema state asks has holds (out_of_memory_told is r also tells u before told) = absurd (not_memory is)
 
 pub client_headline : ClientHeadline
 client_headline words schema_name address state_name channels t before after schema state asks has holds over =
     let v : View = before.view in
     let w : View = after.view in
-    let r = client_ends words schema_name address state_name channels (ReadFailed t) (WriteFailed t) (LinkFailed t) v w schema state asks has holds (words_end words t Done before after over) in
+    let r = client_ends words schema_name address state_name channels t v w schema state asks has holds (words_end words t Done before after over) in
     ends_by schema state_name channels state v w (file_bytes v.files state_name state over.shown.bytes.files holds) r (recovers_by schema state_name channels state v w r r.hears)

@@ -10,7 +10,8 @@ use Rattle.box_events.specs.declared.replies.Reply.TheVariants as reply_of
 use Rattle.box_events.specs.declared.requests.Numbered.{Numbered}
 use Rattle.box_events.specs.declared.steps.Step.{Step}
 use Rattle.box_events.specs.declared.steps.Step.TheVariants.{Hear, Serve}
-use Rattle.box_events.specs.Weaves.{WeaveCause, woven_of}
+use Rattle.box_events.specs.Weaves.{woven_of}
+use Rattle.box_events.specs.declared.difference_fault.WeaveFault.{WeaveFault}
 use Rattle.channel_box.specs.States.{ChannelState, first}
 use Rattle.channel_box.specs.Steps.{asks_number, at_first, is_asking}
 use Rattle.box_server.specs.Answers.{answer}
@@ -99,7 +100,7 @@ taken_some : (b : Bool) (c : ClientState) (x : Received) (xs ys : List EventView
 taken_some true c x xs ys e = absurd cc
 taken_some false c x xs ys e = absurd cc
 
-woven_some : (c : ClientState) (b : Received) (o p : Result (List EventView) WeaveCause) → group_woven c b o p ≡ ignored → ⊥
+woven_some : (c : ClientState) (b : Received) (o p : Result (List EventView) WeaveFault) → group_woven c b o p ≡ ignored → ⊥
 woven_some c b (Err cause) p e = absurd cc
 woven_some c b (Ok xs) (Err cause) e = absurd cc
 woven_some c b (Ok xs) (Ok ys) e = taken_some (b.last && ltb b.state.seq c.settings.at) c b xs ys e

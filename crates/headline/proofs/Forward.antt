@@ -16,7 +16,8 @@ use Rattle.box_events.specs.declared.updates.Push.{Push}
 use Rattle.box_events.specs.declared.updates.Push.TheVariants.{TooLong, Container}
 use Rattle.box_events.specs.declared.updates.Update.{Update}
 use Rattle.box_events.specs.declared.updates.Update.TheVariants.{Common, Secret, Channel, ChannelTooLong, Setting as SettingUpdate}
-use Rattle.box_events.specs.Weaves.{WeaveCause, woven_of}
+use Rattle.box_events.specs.Weaves.{woven_of}
+use Rattle.box_events.specs.declared.difference_fault.WeaveFault.{WeaveFault}
 use Rattle.pts_machine.specs.States.{LaneState}
 use Rattle.pts_machine.specs.Steps.{extend, forget, settle}
 use Rattle.pts_machine.proofs.Moves.{hear_restart}
@@ -93,7 +94,7 @@ fixed_taken : (t : Bool) (c : ClientState) (b : Received) (xs ys : List EventVie
 fixed_taken true c b xs ys = fixed_none c
 fixed_taken false c b xs ys = fixed_done b.last c b xs ys
 
-fixed_woven : (c : ClientState) (b : Received) (o p : Result (List EventView) WeaveCause) → Fixed c (after_reply c (group_woven c b o p))
+fixed_woven : (c : ClientState) (b : Received) (o p : Result (List EventView) WeaveFault) → Fixed c (after_reply c (group_woven c b o p))
 fixed_woven c b (Err cause) p = fixed_none c
 fixed_woven c b (Ok xs) (Err cause) = fixed_none c
 fixed_woven c b (Ok xs) (Ok ys) = fixed_taken (b.last && ltb b.state.seq c.settings.at) c b xs ys

@@ -1,6 +1,5 @@
 -- A server's answers to all that a client asks, in that order, end its session: at each moment what is still to be answered is what the client asks then.
 use Rattle.std.proofs.Common.{◌≡◌, ◌⊎◌, inl, inr, ℕ, zero, suc, ◌+◌, ◌≤◌, pos, List, [], ◌∷◌, ◌++◌, append_assoc, length, Bool, true, false, ◌&&◌, cond, eqb, ltb, is_some, Option, Some, None, Result, Ok, Err, refl, sym, ap, ◌∙◌, subst, arith}
-use Rattle.std.specs.FinMap.{len}
 use Rattle.std.proofs.lemmas.Option.{none-some}
 use Rattle.box_events.specs.Events.{EventView, count_of}
 use Rattle.box_events.specs.declared.replies.Reply.{Reply}
@@ -8,19 +7,19 @@ use Rattle.box_events.specs.declared.replies.Reply.TheVariants as reply_of
 use Rattle.box_events.specs.declared.requests.Numbered.{Numbered}
 use Rattle.box_events.specs.declared.requests.Request.{Request}
 use Rattle.box_events.specs.declared.requests.Request.TheVariants.{Channel as Channel_of}
-use Rattle.box_events.specs.Weaves.{WeaveCause, woven_of}
+use Rattle.box_events.specs.Weaves.{woven_of}
+use Rattle.box_events.specs.declared.difference_fault.WeaveFault.{WeaveFault}
 use Rattle.pts_machine.specs.declared.mode.Mode.{Mode}
-use Rattle.pts_machine.specs.declared.mode.Mode.TheVariants.{Live, Asking, Again}
+use Rattle.pts_machine.specs.declared.mode.Mode.TheVariants.{Live, Again}
 use Rattle.pts_machine.specs.Steps.{extend}
-use Rattle.channel_box.specs.Looks.{any_asks, is_waiting}
 use Rattle.channel_box.specs.States.{ChannelState, first}
-use Rattle.channel_box.specs.Steps.{asks_number, at_first, channel_is_due, is_asking, is_due, ticked, woken}
+use Rattle.channel_box.specs.Steps.{asks_number, at_first, is_asking}
 use Rattle.box_server.specs.Answers.{answer}
 use Rattle.box_server.specs.Servers.{ServerState}
 use Rattle.box_server.proofs.Carrying.{changed_overlays}
 use Rattle.box_client.specs.declared.received.Received.{Received}
 use Rattle.box_client.specs.Asking as asking
-use Rattle.box_client.specs.Asking.{difference_of, group_is_due, group_ticked, is_one_asking, ticks, wakes}
+use Rattle.box_client.specs.Asking.{difference_of, is_one_asking, ticks, wakes}
 use Rattle.box_client.specs.Replies.{Outcome, becomes, channel_replied, group_done, group_replied, group_taken, group_woven, ignored, nothing_new, replied}
 use Rattle.box_client.specs.States.{ClientState}
 use Rattle.box_world.specs.Agreeing.{Each, Reaches}
@@ -28,13 +27,12 @@ use Rattle.box_world.specs.Awaiting.{Below}
 use Rattle.box_world.specs.Recovering.{AnswersEach, most_frames}
 use Rattle.box_world.specs.Streams.{Doing, Frame, IsHonestFrame, Past, asked_by, begun, channel_request, past_of, told_reply}
 use Rattle.box_world.specs.Worlds.{after_reply}
-use Rattle.box_world.proofs.ChannelReplying.{answered_is, is_asked}
+use Rattle.box_world.proofs.ChannelReplying.{answered_is}
 use Rattle.box_world.proofs.GoingOn.{agree_ticks, agree_wakes, still_wakes}
 use Rattle.box_world.proofs.Histories.{frames_are_bounded}
 use Rattle.box_world.proofs.Lists.{of_both}
-use Rattle.box_world.proofs.Posting.{none_either}
 use Rattle.box_world.proofs.Replying.{Told, extend_again, extend_live, stale, takes}
-use Rattle.box_world.proofs.Streams.{ordered}
+use Rattle.box_world.proofs.Streams.{ordered, told_whom}
 use Rattle.box_world.proofs.Ticking.{awaits_ticks, below_ticks, tick_new}
 use Rattle.box_world.proofs.Worlds.{still_awaits, still_below}
 use Rattle.headline.specs.Answering.{AreAnswers, all_asks, hears_one, session_asks}
@@ -44,92 +42,17 @@ use Rattle.headline.proofs.Answered.{Known, asks_for, below_calm, each_in, goes_
 use Rattle.headline.proofs.Channels.{each_index, group_channels}
 use Rattle.headline.proofs.Ending.{Asks, asks_by, same}
 use Rattle.headline.proofs.Finished.{group_some}
-use Rattle.headline.proofs.HonestSteps.{told_whom}
 use Rattle.headline.proofs.LastAnswers.{AgreesAt, by_true}
 use Rattle.headline.proofs.LastChannels.{channel_asked, stream_honest}
+use Rattle.update_sessions.proofs.OpenNumbers.{one, asks_in, asks_of, among, among_both, free_client, woken_counts, ticks_counts, asks_one, none_counts}
 
 -- ---- how often a number is asked, and how often it is still to be answered
 
-abbrev one : Bool → ℕ
-one true = 1
-one false = 0
-
-abbrev asks_in : ℕ → List ChannelState → ℕ
-asks_in n [] = 0
-asks_in n (d ∷ ds) = one (is_asking n d.lane.mode) + asks_in n ds
-
-abbrev asks_of : ℕ → ClientState → ℕ
-asks_of n c = one (is_asking n c.common.mode) + asks_in n c.channels
-
-abbrev among : ℕ → List Numbered → ℕ
-among n [] = 0
-among n (q ∷ qs) = one (eqb q.number n) + among n qs
-
-among_both : (n : ℕ) (xs ys : List Numbered) → among n (xs ++ ys) ≡ among n xs + among n ys
-among_both n [] ys = omega arith
-among_both n (x ∷ xs) ys = let rest = among_both n xs ys in omega (arith, rest)
-
 -- ---- who waits for nothing asks no number
-
-free_mode : (n : ℕ) (m : Mode) → is_waiting m ≡ false → one (is_asking n m) ≡ 0
-free_mode n Live e = refl
-free_mode n Again e = refl
-free_mode n (Asking k) e = absurd (let no : true ≡ false = e in cc)
-
-free_channels : (n : ℕ) (ds : List ChannelState) → any_asks ds ≡ false → asks_in n ds ≡ 0
-free_channels n [] e = refl
-free_channels n (d ∷ ds) e =
-    let two = none_either (is_waiting d.lane.mode) (any_asks ds) e in
-    let here = free_mode n d.lane.mode two.0 in
-    let rest = free_channels n ds two.1 in
-    omega (arith, here, rest)
-
-free_client : (n : ℕ) (c : ClientState) → is_one_asking c ≡ false → asks_of n c ≡ 0
-free_client n c e =
-    let two = none_either (is_waiting c.common.mode) (any_asks c.channels) e in
-    let here = free_mode n c.common.mode two.0 in
-    let rest = free_channels n c.channels two.1 in
-    omega (arith, here, rest)
-
-woken_counts : (n : ℕ) (ds : List ChannelState) → asks_in n (woken ds) ≡ asks_in n ds
-woken_counts n [] = refl
-woken_counts n (d ∷ ds) = ap (λ (k : ℕ). one (is_asking n d.lane.mode) + k) (woken_counts n ds)
 
 -- ---- a tick
 
-due_mode : (n : ℕ) (flag : Bool) (held : ℕ) (m : Mode) → is_due flag held m ≡ true → one (is_asking n m) ≡ 0
-due_mode n flag held Live e = refl
-due_mode n flag held Again e = refl
-due_mode n flag held (Asking k) e = absurd (let no : false ≡ true = e in cc)
-
-ticked_by : (n m : ℕ) (d : ChannelState) (ds : List ChannelState) (b : Bool) → channel_is_due d ≡ b → ((k : ℕ) → asks_in n (ticked k ds).channels ≡ asks_in n ds + among n (ticked k ds).asks)
-    → asks_in n (ticked m (d ∷ ds)).channels ≡ asks_in n (d ∷ ds) + among n (ticked m (d ∷ ds)).asks
-ticked_by n m d ds true e rest =
-    let free = due_mode n d.flag (len d.lane.held) d.lane.mode e in
-    let more = rest (m + 1) in
-    rw e (omega (arith, free, more))
-ticked_by n m d ds false e rest = let more = rest m in rw e (omega (arith, more))
-
-ticked_counts : (n : ℕ) (ds : List ChannelState) (m : ℕ) → asks_in n (ticked m ds).channels ≡ asks_in n ds + among n (ticked m ds).asks
-ticked_counts n [] m = refl
-ticked_counts n (d ∷ ds) m = ticked_by n m d ds (channel_is_due d) refl (ticked_counts n ds)
-
-group_counts : (n : ℕ) (c : ClientState) (b : Bool) → group_is_due c ≡ b → asks_of n (group_ticked c).client ≡ asks_of n c + among n (group_ticked c).asks
-group_counts n c true e = let free = due_mode n c.flag (len c.common.held + len c.secret.held + len c.settings.held) c.common.mode e in rw e (omega (arith, free))
-group_counts n c false e = rw e (omega arith)
-
-ticks_counts : (n : ℕ) (c : ClientState) → asks_of n (ticks c).client ≡ asks_of n c + among n (ticks c).asks
-ticks_counts n c =
-    let g : asking.Asked = group_ticked c in
-    let lead = group_counts n c (group_is_due c) refl in
-    let more = ticked_counts n g.client.channels g.client.next in
-    let both = among_both n g.asks (ticked g.client.next g.client.channels).asks in
-    omega (arith, lead, more, both)
-
 -- ---- a number is asked where it is counted, and counted where it is asked
-
-asks_one : (n m : ℕ) (mode : Mode) → is_asking m mode ≡ true → is_asking n mode ≡ eqb m n
-asks_one n m mode e = ap (is_asking n) (is_asked m mode e)
 
 -- the first channel that asks m takes its answer
 taken_by : (m n : ℕ) (x y d : ChannelState) (ds : List ChannelState) (b : Bool) → one (is_asking n y.lane.mode) ≡ 0 → asks_number m d ≡ b → cond b (Some d) (first (asks_number m) ds) ≡ Some x
@@ -141,14 +64,6 @@ taken_by m n x y d ds false free e is rest = let more = rest is in omega (arith,
 taken_counts : (m n : ℕ) (x y : ChannelState) (ds : List ChannelState) → one (is_asking n y.lane.mode) ≡ 0 → first (asks_number m) ds ≡ Some x → asks_in n (at_first (asks_number m) (λ _. y) ds) + one (eqb m n) ≡ asks_in n ds
 taken_counts m n x y [] free is = absurd (none-some x is)
 taken_counts m n x y (d ∷ ds) free is = taken_by m n x y d ds (asks_number m d) free refl is (λ at. taken_counts m n x y ds free at)
-
-none_by : (n : ℕ) (d : ChannelState) (ds : List ChannelState) (b : Bool) → asks_number n d ≡ b → cond b (Some d) (first (asks_number n) ds) ≡ None → (first (asks_number n) ds ≡ None → asks_in n ds ≡ 0) → one (is_asking n d.lane.mode) + asks_in n ds ≡ 0
-none_by n d ds true e is rest = absurd cc
-none_by n d ds false e is rest = let here = ap one e in let more = rest is in omega (arith, here, more)
-
-none_counts : (n : ℕ) (ds : List ChannelState) → first (asks_number n) ds ≡ None → asks_in n ds ≡ 0
-none_counts n [] is = refl
-none_counts n (d ∷ ds) is = none_by n d ds (asks_number n d) refl is (none_counts n ds)
 
 -- a number that is counted is asked
 channel_counted : (c : ClientState) (n : ℕ) (o : Option ChannelState) → first (asks_number n) c.channels ≡ o → is_asking n c.common.mode ≡ false → 1 ≤ asks_in n c.channels → (r : Request) × (asked_by c n ≡ Some r)
@@ -204,7 +119,7 @@ taken_free : (n : ℕ) (c : ClientState) (b : Received) (xs ys : List EventView)
 taken_free n c b xs ys true d e = absurd cc
 taken_free n c b xs ys false d e = ap (λ (x : ClientState). one (is_asking n x.common.mode)) (same_becomes (group_done b.last c b xs ys) d e) ∙ done_free n b.last c b xs ys
 
-woven_free : (n : ℕ) (c : ClientState) (b : Received) (o p : Result (List EventView) WeaveCause) (d : ClientState) → group_woven c b o p ≡ becomes d → one (is_asking n d.common.mode) ≡ 0
+woven_free : (n : ℕ) (c : ClientState) (b : Received) (o p : Result (List EventView) WeaveFault) (d : ClientState) → group_woven c b o p ≡ becomes d → one (is_asking n d.common.mode) ≡ 0
 woven_free n c b (Err cause) p d e = absurd cc
 woven_free n c b (Ok xs) (Err cause) d e = absurd cc
 woven_free n c b (Ok xs) (Ok ys) d e = taken_free n c b xs ys (b.last && ltb b.state.seq c.settings.at) d e

@@ -34,8 +34,8 @@ use Rattle.box_server.specs.Servers.{ServerState, new_server}
 use Rattle.box_server.specs.declared.fault.PostFault.TheVariants.{TooManyChannels, TooManySettings}
 use Rattle.box_client.specs.States.{new_client}
 use Rattle.box_world.specs.Streams.{IsHonestPush, Past, begun, channel_too_long, first_past, of_post, past_of, posts, told_reply, too_long}
+use Rattle.box_world.proofs.Streams.{new_post}
 use Rattle.headline.specs.CatchingUp.{LastAnswer}
-use Rattle.headline.proofs.HonestSteps.{new_post}
 use Rattle.headline.specs.Instances.{ClientsHaveBoxes, StreamsAreSent, StretchesAreExact, box, history, one, server, two}
 
 -- ---- stretches

@@ -23,12 +23,11 @@ use Rattle.box_world.proofs.GoingOn.{agree_ticks, agree_wakes}
 use Rattle.box_world.proofs.Growing.{agree_as_servers_grow}
 use Rattle.box_world.proofs.Posting.{none_either}
 use Rattle.box_world.proofs.Replying.{Told, stale, takes, told_as, told_group}
-use Rattle.box_world.proofs.Streams.{honest_streams_agree, ordered}
+use Rattle.box_world.proofs.Streams.{goes_later, hears, honest_lies, honest_streams_agree, ordered}
 use Rattle.box_world.proofs.Telling.{answer_is}
 use Rattle.box_world.proofs.Ticking.{stands_at}
 use Rattle.headline.specs.CatchingUp.{AsksNoMore, HonestSessionsCatchUp, LastAnswer, heard_all}
 use Rattle.headline.proofs.Finished.{group_some}
-use Rattle.headline.proofs.HonestSteps.{goes_later, hears, honest_lies}
 use Rattle.headline.proofs.Upward.{Up, after_of, again_group, again_ticks, flagged_ticks, past_up, pushed_mode, same_unasked, up_pushed, up_replied, up_then, up_ticks, waiting_ticks}
 
 -- ---- one frame

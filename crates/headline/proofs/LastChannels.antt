@@ -27,11 +27,11 @@ use Rattle.box_world.proofs.GoingOn.{agree_ticks, agree_wakes}
 use Rattle.box_world.proofs.Posting.{none_either}
 use Rattle.box_world.proofs.Telling.{channel_answer_is}
 use Rattle.box_world.proofs.Ticking.{stands_at}
+use Rattle.box_world.proofs.Streams.{hears, honest_lies, ordered}
 use Rattle.headline.specs.CatchingUp.{heard_all}
 use Rattle.headline.specs.CatchingUpChannels.{ChannelAsksNoMore, HonestSessionsCatchUpByChannel, IsPastAt, LastChannelAnswer, channel_waits}
 use Rattle.headline.proofs.Channels.{Answered, HonestTo, Ticks, Took, map_index, pushed_stands, replied_answered, ticked_index}
 use Rattle.headline.proofs.Forward.{group_index}
-use Rattle.headline.proofs.HonestSteps.{hears, honest_lies, ordered}
 use Rattle.headline.proofs.LastAnswers.{AgreesAt, grown, no_both}
 
 -- ---- one frame

@@ -1,5 +1,4 @@
 pub mod Held
-pub mod HonestSteps
 pub mod Upward
 pub mod Channels
 pub mod Forward

@@ -23,7 +23,6 @@ use Rattle.update_sessions.specs.Served.{Serves}
 use Rattle.session_commands.specs.Client.{HasClient, watch_all}
 use Rattle.session_commands.specs.Linked.{next_link}
 use Rattle.session_commands.specs.Serve.{Total}
-use Rattle.run_laws.specs.Ended.{LinkFailed, ReadFailed, WriteFailed}
 use Rattle.run_laws.specs.Runs.{Ends}
 use Rattle.headline.specs.Histories.{AreMoments, HasHistory}
 use Rattle.headline.specs.Answering.{IsUpToDate}
@@ -150,14 +149,14 @@ met schema state_name state asks answers channels k v w x y are heard given low 
 pub ran_over : (schema state came sent : List ℕ) (x y : View) (c : RecoversOver schema state came sent x y) → Ran schema c.state_name c.channels state x y
 ran_over schema state came sent x y c =
     let ends = words_end c.words c.trace Done c.before c.after c.runs in
-    let here : Ends c.words (ReadFailed c.trace) (WriteFailed c.trace) (LinkFailed c.trace) Done x y = shown_as (Ends c.words (ReadFailed c.trace) (WriteFailed c.trace) (LinkFailed c.trace) Done) c.before.view c.after.view x y c.shown.0 c.shown.1 ends in
-    client_ends c.words c.schema_name c.address c.state_name c.channels _ _ _ x y schema state c.asks c.has c.holds here
+    let here : Ends c.words c.trace Done x y = shown_as (Ends c.words c.trace Done) c.before.view c.after.view x y c.shown.0 c.shown.1 ends in
+    client_ends c.words c.schema_name c.address c.state_name c.channels c.trace x y schema state c.asks c.has c.holds here
 
 pub served_over : (schema : List ℕ) (k : ℕ) (came sent : List ℕ) (v w : View) → ServesOver schema k came sent v w → Served schema k v w
 served_over schema k came sent v w s =
     let ends = words_end s.words s.trace Done s.before s.after s.runs in
-    let here : Ends s.words (ReadFailed s.trace) (WriteFailed s.trace) (LinkFailed s.trace) Done v w = shown_as (Ends s.words (ReadFailed s.trace) (WriteFailed s.trace) (LinkFailed s.trace) Done) s.before.view s.after.view v w s.shown.0 s.shown.1 ends in
-    serve_ends s.schema_name s.address s.sessions schema v w s.has k s.among s.words _ _ _ s.asks here
+    let here : Ends s.words s.trace Done v w = shown_as (Ends s.words s.trace Done) s.before.view s.after.view v w s.shown.0 s.shown.1 ends in
+    serve_ends s.schema_name s.address s.sessions schema v w s.has k s.among s.words s.trace s.asks here
 
 pub served_runs_meet : ServedRunsMeet
 served_runs_meet schema state asks answers k v w x y are heard given low s c =

@@ -19,6 +19,8 @@ use Rattle.fault_lines.specs.Profiled.{IsProfileText, OfProfile, no_profile, pro
 use Rattle.session_commands.specs.Serve.{IsAny, IsWhole, OfSessions, ServeAnswer, Session, SessionEnd, Sessions, Total}
 use Rattle.session_commands.proofs.OneTotal.{any_of, given_bytes}
 use Rattle.commands.specs.Requests.{AsksFor, RequestText, serve}
+use Rattle.outside.specs.Events.{Event}
+use Rattle.run_laws.specs.Ended.{LinkFailed}
 use Rattle.run_laws.specs.Requests.{job_of}
 use Rattle.run_laws.specs.Runs.{Ends, MayAnswer, answered, link_failed, out_of_memory, out_of_memory_later, out_of_memory_told, read_failed, read_failed_later, write_failed}
 use Rattle.run_laws.proofs.OneAnswer.{answer_to}
@@ -137,12 +139,12 @@ module _ (schema_name address : List ℕ) (n : ℕ) (schema : List ℕ) (v w : V
   of_broken : (a : Answer) → (job_of (serve schema_name address n)).broken v a → Done ≡ a.status → Leaves a v w → Served schema k v w
   of_broken a (h, told) ends leaves = of_sessions h.p (subst (λ (t : List ℕ). IsProfileText t h.p) (same_file v.files schema_name h.text schema h.there has) h.is) a told leaves
 
-  module _ (words : List (List ℕ)) (R W L : Type 0) (asks : AsksFor words (serve schema_name address n)) where
-    of_may : (a : Answer) → MayAnswer words L v a → Done ≡ a.status → Leaves a v w → Served schema k v w
+  module _ (words : List (List ℕ)) (t : List Event) (asks : AsksFor words (serve schema_name address n)) where
+    of_may : (a : Answer) → MayAnswer words (LinkFailed t) v a → Done ≡ a.status → Leaves a v w → Served schema k v w
     of_may a (inl h) ends leaves = of_answer a (answer_to words v (serve schema_name address n) a asks h) ends leaves
     of_may a (inr (rose, r, also, broken)) ends leaves = of_broken a (subst (λ (x : RequestText). (job_of x).broken v a) (one_request words r (serve schema_name address n) also asks) broken) ends leaves
 
-    pub serve_ends : Ends words R W L Done v w → Served schema k v w
+    pub serve_ends : Ends words t Done v w → Served schema k v w
     serve_ends (answered a may ends output leaves tells) = of_may a may ends leaves
     serve_ends (read_failed one rose is output tells) = absurd (not_read is)
     serve_ends (read_failed_later rose is s on) = absurd (not_read is)

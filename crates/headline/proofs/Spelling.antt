@@ -14,7 +14,8 @@ use Rattle.box_events.specs.declared.requests.Request.{Request}
 use Rattle.box_events.specs.declared.requests.Request.TheVariants as request
 use Rattle.channel_box.specs.States.{ChannelState, ids_of}
 use Rattle.box_client.specs.Asking.{is_one_asking, ticks, wakes}
-use Rattle.box_client.specs.Replies.{Cause, Outcome, becomes, ignored, refuses, replied}
+use Rattle.box_client.specs.Replies.{Outcome, becomes, ignored, refuses, replied}
+use Rattle.box_client.specs.declared.fault.ClientFault.{ClientFault}
 use Rattle.box_client.specs.States.{ClientState}
 use Rattle.box_server.specs.Answers.{IsAnswered, answer}
 use Rattle.box_server.specs.Servers.{ServerState, dated_at}
@@ -55,6 +56,7 @@ use Rattle.update_sessions.specs.Packed.{Came, MeansCall, MeansFrame, Packed, Sp
 use Rattle.update_sessions.specs.Serving.{after_request, server_side}
 use Rattle.update_sessions.specs.declared.fault.TheConstants.{MAX_FRAMES}
 use Rattle.session_commands.proofs.SpelledBytes.{ValueHolds}
+use Rattle.box_world.proofs.Streams.{hears}
 use Rattle.headline.specs.Answering.{AreAnswers, all_asks, session_asks}
 use Rattle.headline.specs.CatchingUp.{heard_all}
 use Rattle.headline.specs.Conversations.{CanBegin, ConversationsEnd, answers_of}
@@ -64,7 +66,6 @@ use Rattle.headline.specs.ReadHistories.{WereRead}
 use Rattle.headline.specs.TwoPrograms.{Converse}
 use Rattle.headline.proofs.Conversing.{IsAsk, call_fits, frame_fits, none_of, past_last, replies_so, sent_so, session_are_asks, stays_so}
 use Rattle.headline.proofs.HeldTexts.{ServerHolds, answers_have_bytes, dated_holds}
-use Rattle.headline.proofs.HonestSteps.{hears}
 use Rattle.headline.proofs.InOrder.{asked_waits}
 use Rattle.headline.proofs.LastAnswers.{AgreesAt, grown}
 use Rattle.headline.proofs.ReadServers.{read_servers}
@@ -140,7 +141,7 @@ module _ (p : ProfileView) (good : IsProfile p) where
   server_takes s [] = tt
   server_takes s (q ∷ qs) = (tt, server_takes (after_request s q.request) qs)
 
-  clear_by : (o : Outcome) → ((cause : Cause) → o ≢ refuses cause) → cause_in o ≡ None
+  clear_by : (o : Outcome) → ((cause : ClientFault) → o ≢ refuses cause) → cause_in o ≡ None
   clear_by ignored h = refl
   clear_by (refuses cause) h = absurd (h cause refl)
   clear_by (becomes d) h = refl

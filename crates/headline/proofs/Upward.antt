@@ -12,7 +12,8 @@ use Rattle.box_events.specs.declared.updates.Push.{Push}
 use Rattle.box_events.specs.declared.updates.Push.TheVariants.{TooLong, Container}
 use Rattle.box_events.specs.declared.updates.Update.{Update}
 use Rattle.box_events.specs.declared.updates.Update.TheVariants.{Common, Secret, Channel, ChannelTooLong, Setting as SettingUpdate}
-use Rattle.box_events.specs.Weaves.{WeaveCause, woven_of}
+use Rattle.box_events.specs.Weaves.{woven_of}
+use Rattle.box_events.specs.declared.difference_fault.WeaveFault.{WeaveFault}
 use Rattle.pts_machine.specs.Chains.{EndsAfter}
 use Rattle.pts_machine.specs.declared.mode.Mode.{Mode}
 use Rattle.pts_machine.specs.declared.mode.Mode.TheVariants.{Live, Asking, Again}
@@ -216,7 +217,7 @@ up_taken : (c : ClientState) (b : Received) (xs ys : List EventView) (t : Bool) 
 up_taken c b xs ys true e f = up_none c
 up_taken c b xs ys false e f = up_done c b b.last xs ys f (not_back b.last b.state.seq c.settings.at e)
 
-up_woven : (c : ClientState) (b : Received) (o p : Result (List EventView) WeaveCause) → After c → Up c (after_reply c (group_woven c b o p))
+up_woven : (c : ClientState) (b : Received) (o p : Result (List EventView) WeaveFault) → After c → Up c (after_reply c (group_woven c b o p))
 up_woven c b (Err cause) p f = up_none c
 up_woven c b (Ok xs) (Err cause) f = up_none c
 up_woven c b (Ok xs) (Ok ys) f = up_taken c b xs ys (b.last && ltb b.state.seq c.settings.at) refl f
@@ -277,7 +278,7 @@ again_taken c b xs ys false d part e =
     ∙ ap (λ (t : Bool). (group_done t c b xs ys).common.mode) part
     ∙ extend_again c.common xs
 
-again_woven : (c : ClientState) (b : Received) (o p : Result (List EventView) WeaveCause) (d : ClientState) → b.last ≡ false → group_woven c b o p ≡ becomes d → d.common.mode ≡ Again
+again_woven : (c : ClientState) (b : Received) (o p : Result (List EventView) WeaveFault) (d : ClientState) → b.last ≡ false → group_woven c b o p ≡ becomes d → d.common.mode ≡ Again
 again_woven c b (Err cause) p d part e = absurd cc
 again_woven c b (Ok xs) (Err cause) d part e = absurd cc
 again_woven c b (Ok xs) (Ok ys) d part e = again_taken c b xs ys (b.last && ltb b.state.seq c.settings.at) d part e

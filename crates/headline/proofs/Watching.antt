@@ -10,7 +10,8 @@ use Rattle.box_events.specs.declared.updates.Push.{Push}
 use Rattle.box_events.specs.declared.updates.Push.TheVariants.{TooLong, Container}
 use Rattle.box_events.specs.declared.updates.Update.{Update}
 use Rattle.box_events.specs.declared.updates.Update.TheVariants.{Common, Secret, Channel, ChannelTooLong, Setting}
-use Rattle.box_events.specs.Weaves.{WeaveCause, woven_of}
+use Rattle.box_events.specs.Weaves.{woven_of}
+use Rattle.box_events.specs.declared.difference_fault.WeaveFault.{WeaveFault}
 use Rattle.pts_machine.specs.Steps.{extend, hear, restart_at}
 use Rattle.channel_box.specs.States.{ChannelState, first, has_id, ids_of}
 use Rattle.channel_box.specs.Steps.{answered_by, asks_number, at_first, channel_is_due, flagged, grown, heard_by, is_asking, taken_by, ticked}
@@ -64,7 +65,7 @@ ids_pushed c (Container us date seq_start seq) = ap ids_of (pack_channels (ltb 0
 
 -- ---- answers
 
-id_grown : (d y : ChannelState) (last : Bool) (w : Result (List EventView) WeaveCause) → grown d last w ≡ Ok y → y.id ≡ d.id
+id_grown : (d y : ChannelState) (last : Bool) (w : Result (List EventView) WeaveFault) → grown d last w ≡ Ok y → y.id ≡ d.id
 id_grown d y last (Ok xs) e = ap (λ (x : ChannelState). x.id) (sym (same_channel (record d { lane = extend count_of d.lane xs last }) y e))
 id_grown d y last (Err cause) e = absurd cc
 
@@ -73,7 +74,7 @@ id_replied d y (EmptyPart pts last) e = id_grown d y last (woven_of d.lane.at pt
 id_replied d y (Part pts news others last) e = id_grown d y last (woven_of d.lane.at pts news others) e
 id_replied d y (FarPart pts recent last) e = ap (λ (x : ChannelState). x.id) (sym (same_channel (record d { lane = restart_at count_of d.lane pts; recent = recent }) y e))
 
-ids_taken : (c : ClientState) (n : ℕ) (d : ChannelState) (r : ChannelReply) (w : Result ChannelState WeaveCause) → channels.replied d r ≡ w → first (asks_number n) c.channels ≡ Some d → ids_of (after_reply c (by_channels c (taken_by c.channels n w))).channels ≡ ids_of c.channels
+ids_taken : (c : ClientState) (n : ℕ) (d : ChannelState) (r : ChannelReply) (w : Result ChannelState WeaveFault) → channels.replied d r ≡ w → first (asks_number n) c.channels ≡ Some d → ids_of (after_reply c (by_channels c (taken_by c.channels n w))).channels ≡ ids_of c.channels
 ids_taken c n d r (Ok y) e f = ids_first (asks_number n) y c.channels (λ x g. id_replied d y r e ∙ ap (λ (z : ChannelState). z.id) (same_Some d x (sym f ∙ g)))
 ids_taken c n d r (Err cause) e f = refl
 

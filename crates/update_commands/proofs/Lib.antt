@@ -9,5 +9,4 @@ mod RunsMade
 pub mod MakingLaws
 mod Parts
 mod Replayed
-mod ReplayFiles
 pub mod ReplayingLaws

@@ -1,22 +1,17 @@
 -- Laws of `make`.
 use Rattle.std.proofs.Common.{codes, ℕ, List, [], refl, sym, subst, inl}
 use Rattle.tl_base.specs.declared.host.Slot.TheVariants.{Schema}
-use Rattle.tl_schema.specs.Schemas.{Declared}
-use Rattle.outside.specs.Answer.{Answer, refused}
-use Rattle.fault_lines.specs.Profiled.{form_line}
-use Rattle.fault_lines.specs.Profiled as answer
+use Rattle.outside.specs.Answer.{Answer}
 use Rattle.outside.specs.Laws.{Keeps, Explains, HasCause}
 use Rattle.outside.specs.Runs.{Runs}
 use Rattle.outside.proofs.Causing.{keeps_answer, cause_answer, cause_run}
-use Rattle.codec_rooms.specs.Laws.{Named, IsOf, ReadsFiles, EndsFiles}
-use Rattle.codec_rooms.proofs.FileLaws.{Touches, Comes, comes_as, comes_print, touches, reads_files, ends_files}
-use Rattle.codec_rooms.proofs.TypedFiles.{comes_answer, comes_of_file}
+use Rattle.codec_rooms.specs.Laws.{Named, IsOf}
+use Rattle.codec_rooms.proofs.FileLaws.{Touches, touches}
 use Rattle.codec_rooms.proofs.TypedLaws.{keeps_named, cause_of_file}
 use Rattle.update_commands.specs.Make.{OfMadeRun, summed, too_full}
-use Rattle.update_commands.proofs.OneMake.{one_make}
 use Rattle.update_commands.specs.Commands.{make}
 use Rattle.update_commands.specs.MakeWork.{makes, makes_by}
-use Rattle.update_commands.specs.Profile.{OfProfile, no_profile, profiled}
+use Rattle.update_commands.specs.Profile.{OfProfile}
 use Rattle.update_commands.proofs.ProfiledLaws.{keeps_profile, cause_profile}
 
 plain : (number count : ℕ) (a : Answer) → OfMadeRun number count a → Explains a.status []
@@ -38,17 +33,3 @@ module _ (schema : List ℕ) (number count : ℕ) where
   pub make_has_cause : HasCause (Runs (makes schema number count))
   make_has_cause =
       cause_run (makes schema number count) (cause_of_file Schema refl (codes "schema") (OfProfile (makes_by number count)) schema (cause_profile (makes_by number count) (λ p. cause_answer (OfMadeRun number count) (plain number count))))
-
-  comes_profile : (S : Declared) → Comes (λ s. answer.OfProfile (λ p b. OfMadeRun number count b) S) (OfProfile (makes_by number count) S)
-  comes_profile S t status s n (no_profile fault lacks h) f = comes_print (answer.OfProfile (λ p b. OfMadeRun number count b) S) (refused (form_line fault)) t status (answer.no_profile fault lacks refl) h
-  comes_profile S t status s n (profiled p is h) f =
-      comes_as (OfMadeRun number count) (answer.OfProfile (λ p b. OfMadeRun number count b) S) (λ a m. answer.profiled p is m) t status (comes_answer (OfMadeRun number count) t status h)
-
-  comes : Comes (λ s. (make schema number count).answers s.view.files) (makes schema number count)
-  comes = comes_of_file (codes "schema") (OfProfile (makes_by number count)) (λ S files. answer.OfProfile (λ p b. OfMadeRun number count b) S) comes_profile Schema schema
-
-  pub make_reads : ReadsFiles (make schema number count)
-  make_reads = reads_files (make schema number count) make_touches make_has_cause
-
-  pub make_ends : EndsFiles (make schema number count)
-  make_ends = ends_files (make schema number count) comes (λ files. one_make number count files schema) make_reads

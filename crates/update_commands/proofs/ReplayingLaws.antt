@@ -1,6 +1,5 @@
 -- Laws of `replay`.
-use Rattle.std.proofs.Common.{◌≡◌, codes, ℕ, List, [], ◌++◌, Option, Some, None, refl, sym, subst, inl, inr}
-use Rattle.tl_base.specs.Contents.{Files}
+use Rattle.std.proofs.Common.{◌≡◌, codes, ℕ, List, [], ◌++◌, Option, Some, None, refl, subst, inl, inr}
 use Rattle.tl_base.specs.declared.host.Slot.TheVariants.{Schema, Input}
 use Rattle.wire_profile.specs.Indexes.{ProfileView}
 use Rattle.outside.specs.Answer.{Answer}
@@ -12,18 +11,17 @@ use Rattle.outside.specs.Pieces.{ReadsFile}
 use Rattle.outside.specs.Begun.{to_output}
 use Rattle.outside.specs.Runs.{RunsIn}
 use Rattle.outside.proofs.Causing.{keeps_answer, keeps_file, keeps_tell, keeps_then, cause_answer, cause_run, cause_tell, cause_then, explains_last, unread_file}
-use Rattle.codec_rooms.specs.Laws.{Named, Command, IsOf, IsUsed, ReadsFiles, EndsFiles}
-use Rattle.codec_rooms.proofs.FileLaws.{ComesTo, unread, answered as told, run_done, Touches, touches, reads_files, ends_files}
+use Rattle.codec_rooms.specs.Laws.{Named, IsOf, IsUsed}
+use Rattle.codec_rooms.proofs.FileLaws.{Touches, touches}
 use Rattle.codec_rooms.proofs.TypedLaws.{keeps_named, cause_of_file}
 use Rattle.update_replay.specs.Endings.{Ending, whole, no_step, not_made, too_long}
 use Rattle.update_replay.specs.declared.limits.TheConstants.{MAX_JOURNAL_BYTES}
-use Rattle.update_commands.specs.Replay.{OfJournal, ReplayAnswer, ending_answer}
+use Rattle.update_commands.specs.Replay.{OfJournal, ending_answer}
 use Rattle.update_commands.proofs.OneReplay.{some_is}
 use Rattle.update_commands.specs.Profile.{OfProfile}
 use Rattle.update_commands.specs.ReplayWork.{after_journal, replays, replays_by}
 use Rattle.update_commands.specs.Commands.{replay}
 use Rattle.update_commands.proofs.ProfiledLaws.{keeps_profile, cause_profile}
-use Rattle.update_commands.proofs.ReplayFiles.{IsOneAnswer, comes_one}
 
 module _ (schema journal : List ℕ) (n : ℕ) where
   abbrev reads : Named
@@ -69,26 +67,3 @@ module _ (journal : List ℕ) (n : ℕ) (p : ProfileView) where
 
 pub replay_has_cause : (schema journal : List ℕ) (n : ℕ) → HasCause (RunsIn to_output (replays schema journal n))
 replay_has_cause schema journal n = cause_run (replays schema journal n) (cause_of_file Schema refl (codes "schema") (OfProfile (replays_by journal n)) schema (cause_profile (replays_by journal n) (cause_journal journal n)))
-
-pub replay_reads : (schema journal : List ℕ) (n : ℕ) → ReadsFiles (replay schema journal n)
-replay_reads schema journal n = reads_files (replay schema journal n) (replay_touches schema journal n) (replay_has_cause schema journal n)
-
--- ---- over files
-
-module _ (schema journal : List ℕ) (n : ℕ) where
-  -- the answer, where it is the only one
-  abbrev only : Command
-  only = record (replay schema journal n) { answers = λ files a. IsOneAnswer (replay schema journal n) files a }
-
-  one_only : (files : Files) (a b : Answer) → only.answers files a → only.answers files b → a ≡ b
-  one_only files a b h k = k.1 a h.0
-
-  is_only : (files : Files) (t : List Event) (status : Status) (a : Answer) → ComesTo (IsOneAnswer (replay schema journal n) files) t status → (status ≡ ReadFault → ⊥) → ReplayAnswer files schema journal n a → IsOneAnswer (replay schema journal n) files a
-  is_only files t status a (unread e) readable is = absurd (readable e)
-  is_only files t status a (told b first rest splits reading one h) readable is = subst (IsOneAnswer (replay schema journal n) files) (sym (one.1 a is)) one
-
-  pub replay_ends : EndsFiles (replay schema journal n)
-  replay_ends t status s k a h other f r there is room =
-      let readable : status ≡ ReadFault → ⊥ = λ e. replay_reads schema journal n t s k (subst (RunsIn to_output (replays schema journal n) t) e h) f r there in
-      let one = is_only s.view.files t status a (comes_one schema journal n t status s k (run_done (replays schema journal n) t status h other) f) readable is in
-      ends_files only (comes_one schema journal n) one_only (replay_reads schema journal n) t status s k a h other f r there one room

@@ -1,5 +1,5 @@
--- The lines of steps that aren't made in a world, at the offset where the step begins in its journal. Out of memory has none. This project's own.
-use Rattle.std.specs.Prelude.{ℕ, List, ◌++◌, Option, Some, None, option_map, codes, decimal}
+-- The lines of steps that aren't made in a world, at the offset where the step begins in its journal. This project's own.
+use Rattle.std.specs.Prelude.{ℕ, List, ◌++◌, codes, decimal}
 use Rattle.box_world.specs.Possible.{StepCause, no_client, no_packet, wrong_end, pool_full}
 use Rattle.outside.specs.Answer.{placed_line}
 use Rattle.update_world.specs.declared.fault.StepFault.{StepFault}
@@ -16,13 +16,12 @@ cause_words (pool_full bytes) = codes "PoolFull " ++ decimal bytes
 abbrev pub cause_line : ℕ → StepCause → List ℕ
 cause_line at cause = placed_line (codes "journal") at (cause_words cause)
 
-abbrev pub cause_of : StepFault → Option StepCause
-cause_of (fault.NoClient n) = Some (no_client n)
-cause_of (fault.NoPacket n) = Some (no_packet n)
-cause_of (fault.WrongEnd n) = Some (wrong_end n)
-cause_of (fault.PoolFull bytes) = Some (pool_full bytes)
-cause_of fault.Memory = None
+abbrev pub cause_of : StepFault → StepCause
+cause_of (fault.NoClient n) = no_client n
+cause_of (fault.NoPacket n) = no_packet n
+cause_of (fault.WrongEnd n) = wrong_end n
+cause_of (fault.PoolFull bytes) = pool_full bytes
 
 -- of a step that isn't made
-abbrev pub unmade_line : ℕ → StepFault → Option (List ℕ)
-unmade_line at e = option_map (cause_line at) (cause_of e)
+abbrev pub unmade_line : ℕ → StepFault → List ℕ
+unmade_line at e = cause_line at (cause_of e)

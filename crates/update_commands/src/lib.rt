@@ -5,12 +5,10 @@ mod laws;
 mod make;
 mod make_work;
 mod replay;
-mod runs;
 mod steps;
 
 pub use laws::{journals_have_one_answer, made_runs_have_one_answer};
 pub use make::run_text;
 pub use make_work::{make_run, run_make};
 pub use replay::{replay_journal, run_replay};
-pub use runs::{make_ends, make_reads, replay_ends, replay_reads};
 pub use steps::unmade_line;

@@ -1,5 +1,5 @@
 //! Steps that aren't made in a world.
-ghost use Rattle.std.specs.Prelude.{◌≡◌, IfOk, Some, option_map, string_bytes};
+ghost use Rattle.std.specs.Prelude.{◌≡◌, IfOk, string_bytes};
 ghost use Rattle.update_commands.specs.Steps.{cause_of, cause_words, unmade_line};
 
 use outside::placed_line;
@@ -8,20 +8,19 @@ use update_world::StepFault;
 
 // The cause, and its value.
 fn cause_words(alloc: Global, fault: StepFault) -> Result<String, AllocError>
-    ensures { IfOk result (λ s. option_map cause_words (cause_of fault) ≡ Some (string_bytes s)) }
+    ensures { IfOk result (λ s. string_bytes s ≡ cause_words (cause_of fault)) }
 {
     match fault {
         StepFault::NoClient { n } => format!(in alloc; "NoClient {n}"),
         StepFault::NoPacket { n } => format!(in alloc; "NoPacket {n}"),
         StepFault::WrongEnd { n } => format!(in alloc; "WrongEnd {n}"),
         StepFault::PoolFull { bytes } => format!(in alloc; "PoolFull {bytes}"),
-        StepFault::Memory => Err(AllocError),
     }
 }
 
 /// The line of a step that isn't made, at the offset where it begins in the journal.
 pub fn unmade_line(alloc: Global, at: u64, fault: StepFault) -> Result<Vec<u8>, AllocError>
-    ensures { IfOk result (λ line. unmade_line at fault ≡ Some line.items) }
+    ensures { IfOk result (λ line. line.items ≡ unmade_line at fault) }
 {
     let why = cause_words(alloc, fault)?;
     placed_line(alloc, "journal", at, why.as_str())

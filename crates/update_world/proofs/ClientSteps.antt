@@ -26,7 +26,8 @@ use Rattle.box_world.specs.Fitting.{CallFits}
 use Rattle.box_world.proofs.AsksFit.{asks_fit}
 use Rattle.box_world.proofs.PushesBelow.{asks_below}
 use Rattle.update_world.specs.declared.fault.StepFault.{StepFault}
-use Rattle.update_world.specs.declared.fault.StepFault.TheVariants.{Memory}
+use Rattle.tl_base.specs.declared.fault.Fault.{Fault}
+use Rattle.tl_base.specs.declared.fault.Fault.TheVariants.{Memory}
 use Rattle.update_world.specs.declared.limits.TheConstants.{MAX_POOL_BYTES}
 use Rattle.update_world.specs.declared.outcome.Outcome.{Outcome}
 use Rattle.update_world.specs.declared.outcome.Outcome.TheVariants as outcome
@@ -152,9 +153,9 @@ tick_pool p a w k c more steady st at asked =
     subst (λ (v : World). AreSent p (a.pool ++ more) v.pool) (sym (ap (asks w k) cl))
     (sent_append p a.pool more w.pool (map (request k) (ticks c).asks) st.pool (asked_sent p k (ticks c).asks more asked (all_fit c (may_ask (shown_by p a) steady k c at))))
 
-pub tick_unsent : (p : ProfileView) (a b : WorldParts) (w : World) (k : ℕ) (c : ClientState) (new : List SentPacket) (e : StepFault) → IsSteady (shown_by p a) → StandsFor (shown_by p a) w → k < length a.clients.items → slice_get a.clients.items k ≡ Some c
+pub tick_unsent : (p : ProfileView) (a b : WorldParts) (w : World) (k : ℕ) (c : ClientState) (new : List SentPacket) (e : Fault StepFault) → IsSteady (shown_by p a) → StandsFor (shown_by p a) w → k < length a.clients.items → slice_get a.clients.items k ≡ Some c
     → SendsCalls p k (ticks c).asks a.pool (Err e) new → Happens (shown_by p a) (step.Tick k) w (Err e) (shown_after p b (Err e))
-tick_unsent p a b w k c new e steady st lt at (inl q) = let is : e ≡ Memory = cc in subst (λ (x : StepFault). Happens (shown_by p a) (step.Tick k) w (Err x) (shown_after p b (Err x))) (sym is) refl
+tick_unsent p a b w k c new e steady st lt at (inl q) = let is : e ≡ Memory = cc in subst (λ (x : Fault StepFault). Happens (shown_by p a) (step.Tick k) w (Err x) (shown_after p b (Err x))) (sym is) refl
 tick_unsent p a b w k c new e steady st lt at (inr h) =
     unsent p steady.profile a b (step.Tick k) w a.pool h.0 new e (tick_reaches p a w k st lt) (tick_pool p a w k c h.0 steady st at h.1) h.2
 

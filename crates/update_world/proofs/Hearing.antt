@@ -16,21 +16,20 @@ use Rattle.box_events.specs.declared.updates.Push.{Push as SomePush}
 use Rattle.channel_box.specs.States.{ChannelState, first}
 use Rattle.channel_box.specs.Steps.{Answered, stale, refused, taken, answered, answered_by, asks_number, is_asking, taken_by}
 use Rattle.channel_box.specs.Steps as channels
-use Rattle.box_events.specs.Weaves.{WeaveCause, woven_of}
+use Rattle.box_events.specs.Weaves.{woven_of}
+use Rattle.box_events.specs.declared.difference_fault.WeaveFault.{WeaveFault}
 use Rattle.box_client.specs.declared.received.Received.{Received}
-use Rattle.box_client.specs.declared.fault.ClientFault.{ClientFault}
-use Rattle.box_client.specs.declared.fault.ClientFault.TheVariants.{PeerError, WrongKind, Weave, SeqBack, Memory as ClientMemory}
-use Rattle.box_events.specs.declared.difference_fault.WeaveFault.TheVariants.{Overlap, Uneven, Memory as WeaveMemory}
-use Rattle.box_client.specs.Calls.{Answers}
 use Rattle.box_client.specs.States.{ClientState}
-use Rattle.box_client.specs.Replies.{Cause, Outcome, ignored, refuses, becomes, brings, by_channels, channel_replied, group_replied, group_taken, group_woven, nothing_new, replied}
+use Rattle.box_client.specs.Replies.{Outcome, ignored, refuses, becomes, brings, by_channels, channel_replied, group_replied, group_taken, group_woven, nothing_new, replied}
 use Rattle.wire_profile.specs.Indexes.{ProfileView}
 use Rattle.box_world.specs.Worlds.{Packet, push, request, reply, World, after_reply, goes_on, happens, heard, received, run}
 use Rattle.box_world.specs.Possible.{is_for, no_client, no_packet, wrong, wrong_end, past}
 use Rattle.report_lines.specs.declared.heard.HeardAs.{HeardAs}
 use Rattle.report_lines.specs.declared.heard.HeardAs.TheVariants as told
 use Rattle.update_world.specs.declared.fault.StepFault.{StepFault}
-use Rattle.update_world.specs.declared.fault.StepFault.TheVariants.{NoClient, NoPacket, WrongEnd, PoolFull, Memory}
+use Rattle.tl_base.specs.declared.fault.Fault.{Fault}
+use Rattle.update_world.specs.declared.fault.StepFault.TheVariants.{NoClient, NoPacket, WrongEnd, PoolFull}
+use Rattle.tl_base.specs.declared.fault.Fault.TheVariants.{Refused, Memory}
 use Rattle.update_world.specs.declared.limits.TheConstants.{MAX_POOL_BYTES}
 use Rattle.update_world.specs.declared.outcome.Outcome.TheVariants as outcome
 use Rattle.update_world.specs.declared.parts.WorldParts.{WorldParts}
@@ -55,7 +54,7 @@ not_ignored : (last : Bool) (c : ClientState) (b : Received) (xs ys : List Event
 not_ignored true c b xs ys e = cc
 not_ignored false c b xs ys e = cc
 
-group_told : (c : ClientState) (b : Received) (o p : Result (List EventView) WeaveCause) → group_woven c b o p ≡ ignored → ⊥
+group_told : (c : ClientState) (b : Received) (o p : Result (List EventView) WeaveFault) → group_woven c b o p ≡ ignored → ⊥
 group_told c b (Err cause) p e = cc
 group_told c b (Ok xs) (Err cause) e = cc
 group_told c b (Ok xs) (Ok ys) e = not_ignored _ c b xs ys e
@@ -73,7 +72,7 @@ group_never c (reply_of.Receipt receipt) e = cc
 group_never c (reply_of.Error code text) e = cc
 
 -- nor one that a channel asked for
-taken_never : (cs : List ChannelState) (n : ℕ) (o : Result ChannelState WeaveCause) → taken_by cs n o ≡ stale → ⊥
+taken_never : (cs : List ChannelState) (n : ℕ) (o : Result ChannelState WeaveFault) → taken_by cs n o ≡ stale → ⊥
 taken_never cs n (Ok c) e = cc
 taken_never cs n (Err cause) e = cc
 
@@ -123,16 +122,6 @@ stale_client c d f n r is e same = same ∙ ap (after_reply c) (sym e) ∙ ap (a
 
 pub stale_heard : (c : ClientState) (f : Frame) (n : ℕ) (r : SomeReply) → f ≡ Reply n r → replied c n r ≡ ignored → told.Stale ≡ frame_as c f
 stale_heard c f n r is e = ap (λ (b : Bool). cond b told.Reply told.Stale) (sym (stale_told c n r e)) ∙ ap (frame_as c) (sym is)
-
--- of a frame that is taken only memory can be wanting
-pub never_refused : (c d : ClientState) (f : Frame) (n : ℕ) (r : SomeReply) (e : ClientFault) → f ≡ Reply n r → IsTaken c f → e ≢ ClientMemory → Answers c (replied c n r) (Err e) d → ⊥
-never_refused c d f n r (PeerError code) is ok not h = (subst (IsTaken c) is ok) _ h.0
-never_refused c d f n r WrongKind is ok not h = (subst (IsTaken c) is ok) _ h.0
-never_refused c d f n r (Weave (Overlap pts)) is ok not h = (subst (IsTaken c) is ok) _ h.0
-never_refused c d f n r (Weave (Uneven x y z)) is ok not h = (subst (IsTaken c) is ok) _ h.0
-never_refused c d f n r (Weave WeaveMemory) is ok not h = h
-never_refused c d f n r (SeqBack at seq) is ok not h = (subst (IsTaken c) is ok) _ h.0
-never_refused c d f n r ClientMemory is ok not h = not refl
 
 -- ---- which message it is
 
@@ -218,19 +207,19 @@ not_for p k s (push q) to is = sym (ap (hears k) is.to) ∙ to
 not_for p k s (request j n) to is = refl
 not_for p k s (reply j n r t) to is = sym (ap (hears k) is.to) ∙ to
 
-pub hear_refused : (p : ProfileView) (a b : WorldParts) (w : World) (k m : ℕ) (e : StepFault) → StandsFor (shown_by p a) w → k < length a.clients.items → FrameFor p a.pool k m (Err e) → b ≡ a
+pub hear_refused : (p : ProfileView) (a b : WorldParts) (w : World) (k m : ℕ) (e : Fault StepFault) → StandsFor (shown_by p a) w → k < length a.clients.items → FrameFor p a.pool k m (Err e) → b ≡ a
     → Happens (shown_by p a) (step.Hear k m) w (Err e) (shown_after p b (Err e))
-hear_refused p a b w k m (NoClient n) st lt h same = absurd h
-hear_refused p a b w k m (NoPacket n) st lt h same =
+hear_refused p a b w k m (Refused (NoClient n)) st lt h same = absurd h
+hear_refused p a b w k m (Refused (NoPacket n)) st lt h same =
     let cl : k < length w.clients = subst (λ (n : ℕ). k < n) (sym (ap length st.clients)) lt in
     let far : length w.pool ≤ m = subst (λ (n : ℕ). n ≤ m) (sent_length p a.pool w.pool st.pool) h.1 in
     (far_packet packet_size w (step.Hear k m) m (there no_client (length w.clients) k cl) refl far ∙ ap (λ (n : ℕ). Some (no_packet n)) (sym h.0), ap (shown_by p) same)
-hear_refused p a b w k m (WrongEnd n) st lt h same =
+hear_refused p a b w k m (Refused (WrongEnd n)) st lt h same =
     let cl : k < length w.clients = subst (λ (n : ℕ). k < n) (sym (ap length st.clients)) lt in
     let g = sent_get p a.pool w.pool st.pool m h.1.sent h.1.there in
     let to : is_for k (slice_get w.pool m) ≡ false = ap (is_for k) g.1 ∙ not_for p k h.1.sent g.0 h.1.to g.2 in (
       wrong_packet packet_size w (step.Hear k m) (wrong_end m) (there no_client (length w.clients) k cl) (there no_packet (length w.pool) m (slice_get_within w.pool m g.0 g.1)) (ap (λ (t : Bool). wrong t m) to) ∙ ap (λ (n : ℕ). Some (wrong_end n)) (sym h.0),
       ap (shown_by p) same,
     )
-hear_refused p a b w k m (PoolFull n) st lt h same = absurd h
+hear_refused p a b w k m (Refused (PoolFull n)) st lt h same = absurd h
 hear_refused p a b w k m Memory st lt h same = refl

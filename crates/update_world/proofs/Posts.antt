@@ -26,6 +26,7 @@ use Rattle.box_world.specs.Sizes.{frame_size}
 use Rattle.box_world.proofs.PushesBelow.{pushes_below}
 use Rattle.box_world.proofs.PushesFit.{pushes_fit}
 use Rattle.update_world.specs.declared.fault.StepFault.{StepFault}
+use Rattle.tl_base.specs.declared.fault.Fault.{Fault}
 use Rattle.update_world.specs.declared.limits.TheConstants.{MAX_POOL_BYTES}
 use Rattle.update_world.specs.declared.outcome.Outcome.{Outcome}
 use Rattle.update_world.specs.declared.outcome.Outcome.TheVariants as outcome
@@ -143,7 +144,7 @@ new_outcome w random_id ps q t n new same =
 to_world : (p : ProfileView) (a : WorldParts) (w : World) (random_id : ℤ) (ps : List Post) (q : SomePush) (t : ServerState) → StandsFor (shown_by p a) w → IsNew a.server random_id ps q t → IsNew w.server random_id ps q t
 to_world p a w random_id ps q t st n = subst (λ (s : ServerState). IsNew s random_id ps q t) (sym st.server) n
 
-pub post_unsent : (p : ProfileView) → IsProfile p → (a b : WorldParts) (w : World) (random_id : ℤ) (ps : List Post) (q : SomePush) (t : ServerState) (new : List SentPacket) (e : StepFault) → IsSound a.server → StandsFor (shown_by p a) w
+pub post_unsent : (p : ProfileView) → IsProfile p → (a b : WorldParts) (w : World) (random_id : ℤ) (ps : List Post) (q : SomePush) (t : ServerState) (new : List SentPacket) (e : Fault StepFault) → IsSound a.server → StandsFor (shown_by p a) w
     → IsNew a.server random_id ps q t → SendsFrame p (Push q) Clients a.pool (Err e) new → Happens (shown_by p a) (step.Post random_id ps) w (Err e) (shown_after p b (Err e))
 post_unsent p is a b w random_id ps q t new e sound st n sends =
     frame_unsent p is a b (step.Post random_id ps) w (Push q) Clients (push q) new e st (new_brings w random_id ps q t (subst IsSound (sym st.server) sound) (to_world p a w random_id ps q t st n)) sends

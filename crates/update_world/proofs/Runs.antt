@@ -19,7 +19,8 @@ use Rattle.box_server.specs.declared.fault.PostFault.{PostFault}
 use Rattle.box_server.proofs.Carrying.{changed_overlays}
 use Rattle.box_client.specs.States.{ClientState}
 use Rattle.box_client.specs.Asking.{ticks, wakes, restarted}
-use Rattle.box_client.specs.Replies.{Cause, refuses, replied}
+use Rattle.box_client.specs.Replies.{refuses, replied}
+use Rattle.box_client.specs.declared.fault.ClientFault.{ClientFault}
 use Rattle.box_client.proofs.GivenOnce.{next_past}
 use Rattle.wire_profile.specs.Indexes.{ProfileView}
 use Rattle.wire_profile.specs.Profiles.{IsProfile}
@@ -56,7 +57,7 @@ is_answered n steps m k r at =
 -- ---- replies
 
 pub is_taken : (n : ℕ) (steps : List Step) (m k number : ℕ) (r : Reply) (s : ServerState) (c : ClientState) → slice_get (run n steps).pool m ≡ Some (reply k number r s) → slice_get (run n steps).clients k ≡ Some c
-    → (cause : Cause) → replied c number r ≡ refuses cause → ⊥
+    → (cause : ClientFault) → replied c number r ≡ refuses cause → ⊥
 is_taken n steps m k number r s c at there cause is = replies_are_taken changed_overlays n steps m k number r s c cause at there is
 
 -- ---- clients number their requests from 1

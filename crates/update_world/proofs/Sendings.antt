@@ -10,7 +10,8 @@ use Rattle.box_wire.specs.Framing.{Framed}
 use Rattle.box_wire.specs.Kinds.{frames}
 use Rattle.box_world.specs.Worlds.{Packet, request, World, happens}
 use Rattle.update_world.specs.declared.fault.StepFault.{StepFault}
-use Rattle.update_world.specs.declared.fault.StepFault.TheVariants.{Memory}
+use Rattle.tl_base.specs.declared.fault.Fault.{Fault}
+use Rattle.tl_base.specs.declared.fault.Fault.TheVariants.{Memory}
 use Rattle.update_world.specs.declared.limits.TheConstants.{MAX_POOL_BYTES}
 use Rattle.update_world.specs.declared.outcome.Outcome.{Outcome}
 use Rattle.update_world.specs.declared.parts.WorldParts.{WorldParts}
@@ -39,7 +40,7 @@ pub record Brings (w : World) (s : Step) (f : Frame) (to : End) (m : Packet) : T
   pub frame : IsFrameOf f to m
   pub pool : (happens w s).pool ≡ w.pool ++ m ∷ []
 
-memory_is : (e : StepFault) → ◌≡◌ {A = Result ℕ StepFault} (Err e) (Err Memory) → e ≡ Memory
+memory_is : (e : Fault StepFault) → ◌≡◌ {A = Result ℕ (Fault StepFault)} (Err e) (Err Memory) → e ≡ Memory
 memory_is e q = cc
 
 -- what is sent is the message
@@ -50,14 +51,14 @@ one_more p w s f to m old b sent br framed =
     (sent_push p old (record { bytes = b; to = to }) w.pool m sent (record { to = br.frame.ends b; bytes = br.frame.spelled p b framed; read = br.frame.read }))
 
 -- the frame isn't sent
-pub frame_unsent : (p : ProfileView) → IsProfile p → (a b : WorldParts) (s : Step) (w : World) (f : Frame) (to : End) (m : Packet) (new : List SentPacket) (e : StepFault) → StandsFor (shown_by p a) w → Brings w s f to m
+pub frame_unsent : (p : ProfileView) → IsProfile p → (a b : WorldParts) (s : Step) (w : World) (f : Frame) (to : End) (m : Packet) (new : List SentPacket) (e : Fault StepFault) → StandsFor (shown_by p a) w → Brings w s f to m
     → SendsFrame p f to a.pool (Err e) new → Happens (shown_by p a) s w (Err e) (shown_after p b (Err e))
-frame_unsent p is a b s w f to m new e st br (inl q) = subst (λ (x : StepFault). Happens (shown_by p a) s w (Err x) (shown_after p b (Err x))) (sym (memory_is e q)) refl
+frame_unsent p is a b s w f to m new e st br (inl q) = subst (λ (x : Fault StepFault). Happens (shown_by p a) s w (Err x) (shown_after p b (Err x))) (sym (memory_is e q)) refl
 frame_unsent p is a b s w f to m new e st br (inr h) =
     unsent p is a b s w a.pool (record { bytes = h.0; to = to } ∷ []) new e br.reaches (one_more p w s f to m a.pool h.0 st.pool br h.1) h.2
 
 -- the frame is sent
-no_memory : (n : ℕ) → ◌≡◌ {A = Result ℕ StepFault} (Ok n) (Err Memory) → ⊥
+no_memory : (n : ℕ) → ◌≡◌ {A = Result ℕ (Fault StepFault)} (Ok n) (Err Memory) → ⊥
 no_memory n q = cc
 
 pub record IsFrameSent (p : ProfileView) (a : WorldParts) (w : World) (s : Step) (n : ℕ) (new : List SentPacket) : Type 0 where

@@ -36,7 +36,9 @@ use Rattle.box_world.proofs.AnswersBelow.{answers_below}
 use Rattle.box_world.proofs.PushesBelow.{warnings_below}
 use Rattle.box_world.proofs.PushesFit.{warnings_fit}
 use Rattle.update_world.specs.declared.fault.StepFault.{StepFault}
-use Rattle.update_world.specs.declared.fault.StepFault.TheVariants.{NoClient, NoPacket, WrongEnd, PoolFull, Memory}
+use Rattle.tl_base.specs.declared.fault.Fault.{Fault}
+use Rattle.update_world.specs.declared.fault.StepFault.TheVariants.{NoClient, NoPacket, WrongEnd, PoolFull}
+use Rattle.tl_base.specs.declared.fault.Fault.TheVariants.{Refused, Memory}
 use Rattle.update_world.specs.declared.outcome.Outcome.TheVariants as outcome
 use Rattle.update_world.specs.declared.parts.WorldParts.{WorldParts}
 use Rattle.update_world.specs.declared.reading.Asked.{Asked}
@@ -107,7 +109,7 @@ reply_short s n x r sound is = subst (λ (y : SomeReply). frame_size (Reply n y)
 to_world : (a : WorldParts) (w : World) (x : Asked) (r : SomeReply) → w.server ≡ a.server → r ≡ answer a.server x.call.request → r ≡ answer w.server x.call.request
 to_world a w x r same is = is ∙ ap (λ (s : ServerState). answer s x.call.request) (sym same)
 
-pub serve_unsent : (p : ProfileView) (a b : WorldParts) (w : World) (m : ℕ) (x : Asked) (r : SomeReply) (new : List SentPacket) (e : StepFault) → IsSteady (shown_by p a) → StandsFor (shown_by p a) w → HasCallFrom p a.pool m x
+pub serve_unsent : (p : ProfileView) (a b : WorldParts) (w : World) (m : ℕ) (x : Asked) (r : SomeReply) (new : List SentPacket) (e : Fault StepFault) → IsSteady (shown_by p a) → StandsFor (shown_by p a) w → HasCallFrom p a.pool m x
     → r ≡ answer a.server x.call.request → SendsFrame p (Reply x.call.number r) (Client x.from) a.pool (Err e) new → Happens (shown_by p a) (step.Serve m) w (Err e) (shown_after p b (Err e))
 serve_unsent p a b w m x r new e steady st h is sends =
     let here = call_is p a w m x st.pool h in
@@ -134,19 +136,19 @@ not_served p s (push q) to is = refl
 not_served p s (request j n) to is = sym (ap is_request is.to) ∙ to
 not_served p s (reply j n r t) to is = refl
 
-pub serve_refused : (p : ProfileView) (a b : WorldParts) (w : World) (m : ℕ) (e : StepFault) → StandsFor (shown_by p a) w → AsksFrom p a.pool m (Err e) → b ≡ a
+pub serve_refused : (p : ProfileView) (a b : WorldParts) (w : World) (m : ℕ) (e : Fault StepFault) → StandsFor (shown_by p a) w → AsksFrom p a.pool m (Err e) → b ≡ a
     → Happens (shown_by p a) (step.Serve m) w (Err e) (shown_after p b (Err e))
-serve_refused p a b w m (NoClient n) st h same = absurd h
-serve_refused p a b w m (NoPacket n) st h same =
+serve_refused p a b w m (Refused (NoClient n)) st h same = absurd h
+serve_refused p a b w m (Refused (NoPacket n)) st h same =
     let far : length w.pool ≤ m = subst (λ (k : ℕ). k ≤ m) (sent_length p a.pool w.pool st.pool) h.1 in
     (far_packet packet_size w (step.Serve m) m refl refl far ∙ ap (λ (k : ℕ). Some (no_packet k)) (sym h.0), ap (shown_by p) same)
-serve_refused p a b w m (WrongEnd n) st h same =
+serve_refused p a b w m (Refused (WrongEnd n)) st h same =
     let g = sent_get p a.pool w.pool st.pool m h.1.sent h.1.there in
     let to : is_served (slice_get w.pool m) ≡ false = ap is_served g.1 ∙ not_served p h.1.sent g.0 h.1.to g.2 in (
       wrong_packet packet_size w (step.Serve m) (wrong_end m) refl (there no_packet (length w.pool) m (slice_get_within w.pool m g.0 g.1)) (ap (λ b. wrong b m) to) ∙ ap (λ (k : ℕ). Some (wrong_end k)) (sym h.0),
       ap (shown_by p) same,
     )
-serve_refused p a b w m (PoolFull n) st h same = absurd h
+serve_refused p a b w m (Refused (PoolFull n)) st h same = absurd h
 serve_refused p a b w m Memory st h same = refl
 
 -- ---- warnings
@@ -158,7 +160,7 @@ warning_brings w = record {
   pool = refl;
 }
 
-pub warning_unsent : (p : ProfileView) (a b : WorldParts) (w : World) (new : List SentPacket) (e : StepFault) → IsSteady (shown_by p a) → StandsFor (shown_by p a) w → SendsFrame p (Push TooLong) Clients a.pool (Err e) new
+pub warning_unsent : (p : ProfileView) (a b : WorldParts) (w : World) (new : List SentPacket) (e : Fault StepFault) → IsSteady (shown_by p a) → StandsFor (shown_by p a) w → SendsFrame p (Push TooLong) Clients a.pool (Err e) new
     → Happens (shown_by p a) step.TooLong w (Err e) (shown_after p b (Err e))
 warning_unsent p a b w new e steady st sends = frame_unsent p steady.profile a b step.TooLong w (Push TooLong) Clients (push TooLong) new e st (warning_brings w) sends
 
@@ -178,7 +180,7 @@ channel_brings w id q sound is = record {
 at_world : (a : WorldParts) (w : World) (id : ℤ) (q : SomePush) → w.server ≡ a.server → q ≡ channel_too_long a.server id → q ≡ channel_too_long w.server id
 at_world a w id q same is = is ∙ ap (λ (s : ServerState). channel_too_long s id) (sym same)
 
-pub channel_unsent : (p : ProfileView) (a b : WorldParts) (w : World) (id : ℤ) (q : SomePush) (new : List SentPacket) (e : StepFault) → IsSteady (shown_by p a) → StandsFor (shown_by p a) w → q ≡ channel_too_long a.server id
+pub channel_unsent : (p : ProfileView) (a b : WorldParts) (w : World) (id : ℤ) (q : SomePush) (new : List SentPacket) (e : Fault StepFault) → IsSteady (shown_by p a) → StandsFor (shown_by p a) w → q ≡ channel_too_long a.server id
     → SendsFrame p (Push q) Clients a.pool (Err e) new → Happens (shown_by p a) (step.ChannelTooLong id) w (Err e) (shown_after p b (Err e))
 channel_unsent p a b w id q new e steady st is sends =
     frame_unsent p steady.profile a b (step.ChannelTooLong id) w (Push q) Clients (push q) new e st (channel_brings w id q (subst IsSound (sym st.server) steady.sound) (at_world a w id q st.server is)) sends

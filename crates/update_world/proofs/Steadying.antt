@@ -23,7 +23,9 @@ use Rattle.box_world.specs.Worlds.{Packet, push, request, reply, World, asks, cl
 use Rattle.box_world.specs.Possible.{AllPossible, bytes_in, refusal}
 use Rattle.box_world.proofs.OneMore.{clients_stay, possible_go_on, runs_go_on}
 use Rattle.update_world.specs.declared.fault.StepFault.{StepFault}
-use Rattle.update_world.specs.declared.fault.StepFault.TheVariants.{NoClient, NoPacket, WrongEnd, PoolFull, Memory}
+use Rattle.tl_base.specs.declared.fault.Fault.{Fault}
+use Rattle.update_world.specs.declared.fault.StepFault.TheVariants.{NoClient, NoPacket, WrongEnd, PoolFull}
+use Rattle.tl_base.specs.declared.fault.Fault.TheVariants.{Refused, Memory}
 use Rattle.update_world.specs.declared.limits.TheConstants.{MAX_POOL_BYTES}
 use Rattle.update_world.specs.declared.outcome.Outcome.{Outcome}
 use Rattle.update_world.specs.declared.parts.WorldParts.{WorldParts}
@@ -99,13 +101,13 @@ goes_on p a b s o steady dated same made =
 kept_by : (p : ProfileView) (a b : WorldParts) → shown_by p b ≡ shown_by p a → IsSteady (shown_by p a) → IsSteady (shown_by p b)
 kept_by p a b same steady = subst IsSteady (sym same) steady
 
-pub stays_steady : (p : ProfileView) (a b : WorldParts) (s : Step) (result : Result Outcome StepFault) → IsSteady (shown_by p a) → IsDated s → length b.clients.items ≡ length a.clients.items → Makes p s a result b → spoil_of result ≡ None
+pub stays_steady : (p : ProfileView) (a b : WorldParts) (s : Step) (result : Result Outcome (Fault StepFault)) → IsSteady (shown_by p a) → IsDated s → length b.clients.items ≡ length a.clients.items → Makes p s a result b → spoil_of result ≡ None
     → IsSteady (shown_by p b)
 stays_steady p a b s (Ok o) steady dated same made fine = goes_on p a b s o steady dated same made
-stays_steady p a b s (Err (NoClient n)) steady dated same made fine = kept_by p a b (made (run (length a.clients.items) steady.run.steps) steady.run.stands).1 steady
-stays_steady p a b s (Err (NoPacket n)) steady dated same made fine = kept_by p a b (made (run (length a.clients.items) steady.run.steps) steady.run.stands).1 steady
-stays_steady p a b s (Err (WrongEnd n)) steady dated same made fine = kept_by p a b (made (run (length a.clients.items) steady.run.steps) steady.run.stands).1 steady
-stays_steady p a b s (Err (PoolFull n)) steady dated same made fine = absurd (none-some (PoolFull n) (sym fine))
+stays_steady p a b s (Err (Refused (NoClient n))) steady dated same made fine = kept_by p a b (made (run (length a.clients.items) steady.run.steps) steady.run.stands).1 steady
+stays_steady p a b s (Err (Refused (NoPacket n))) steady dated same made fine = kept_by p a b (made (run (length a.clients.items) steady.run.steps) steady.run.stands).1 steady
+stays_steady p a b s (Err (Refused (WrongEnd n))) steady dated same made fine = kept_by p a b (made (run (length a.clients.items) steady.run.steps) steady.run.stands).1 steady
+stays_steady p a b s (Err (Refused (PoolFull n))) steady dated same made fine = absurd (none-some (Refused (PoolFull n)) (sym fine))
 stays_steady p a b s (Err Memory) steady dated same made fine = absurd (none-some Memory (sym fine))
 
 -- ---- at the start

@@ -7,6 +7,7 @@ use Rattle.wire_profile.specs.Indexes.{ProfileView}
 use Rattle.box_world.specs.Worlds.{World, start, run}
 use Rattle.box_world.specs.Possible.{AllPossible}
 use Rattle.update_world.specs.declared.fault.StepFault.{StepFault}
+use Rattle.tl_base.specs.declared.fault.Fault.{Fault}
 use Rattle.update_world.specs.declared.sent.SentPacket.{SentPacket}
 use Rattle.update_world.specs.Spelled.{AreSent, packet_size}
 
@@ -16,7 +17,7 @@ pub record Shown : Type 0 where
   pub server : ServerState
   pub clients : List ClientState
   pub pool : List SentPacket
-  pub spoiled : Option StepFault
+  pub spoiled : Option (Fault StepFault)
 
 abbrev pub bytes_of : List SentPacket → ℕ
 bytes_of [] = 0

@@ -11,12 +11,12 @@ use crate::outcome::Outcome;
 use crate::parts::WorldParts;
 use crate::reading::frame_for;
 use crate::spelling::send_calls;
-use box_client::{Client, ClientFault, ReplyOutcome};
+use box_client::{Client, ReplyOutcome};
 use box_events::{Asks, Frame};
 use channel_box::WatchFault;
 use report_lines::HeardAs;
 use std::alloc::{AllocError, Global};
-use tl_base::Memory;
+use tl_base::{Fault, Memory};
 use wire_profile::Profile;
 
 /// A client receives a packet.
@@ -26,13 +26,13 @@ pub fn hear(
     parts: &mut WorldParts,
     client: u32,
     packet: u32,
-) -> Result<Outcome, StepFault>
+) -> Result<Outcome, Fault<StepFault>>
     requires { IsSteady (shown_by profile.now parts.old) }
     ensures step { Makes profile.now (step.Hear client packet) parts.old result parts.new }
     ensures clients { length parts.new.clients.items ≡ length parts.old.clients.items }
 {
     if client as usize >= parts.clients.len() {
-        return Err(StepFault::NoClient { n: client });
+        return Err(Fault::Refused(StepFault::NoClient { n: client }));
     }
     let frame = frame_for(alloc, profile, &parts.pool, client, packet)?;
     let told = deliver(alloc, &mut parts.clients[client as usize], frame)?;
@@ -54,8 +54,8 @@ fn deliver(alloc: Global, client: &mut Client, frame: Frame) -> Result<HeardAs, 
         Frame::Reply { number, reply } => match client.hear_reply(alloc, number, reply) {
             Ok(ReplyOutcome::Reply) => Ok(HeardAs::Reply),
             Ok(ReplyOutcome::Stale) => Ok(HeardAs::Stale),
-            Err(ClientFault::Memory) => Err(AllocError),
-            Err(_) => unreachable!(),
+            Err(Fault::Refused(_)) => unreachable!(),
+            Err(Fault::Memory) => Err(AllocError),
         },
     }
 }
@@ -66,13 +66,13 @@ pub fn tick(
     profile: &Profile,
     parts: &mut WorldParts,
     client: u32,
-) -> Result<Outcome, StepFault>
+) -> Result<Outcome, Fault<StepFault>>
     requires { IsSteady (shown_by profile.now parts.old) }
     ensures step { Makes profile.now (step.Tick client) parts.old result parts.new }
     ensures clients { length parts.new.clients.items ≡ length parts.old.clients.items }
 {
     if client as usize >= parts.clients.len() {
-        return Err(StepFault::NoClient { n: client });
+        return Err(Fault::Refused(StepFault::NoClient { n: client }));
     }
     let mut asks = Asks::new();
     parts.clients[client as usize].tick(&mut asks);
@@ -86,12 +86,12 @@ pub fn tick(
 }
 
 /// A client is to ask about all.
-pub fn wake(parts: &mut WorldParts, client: u32) -> Result<Outcome, StepFault>
+pub fn wake(parts: &mut WorldParts, client: u32) -> Result<Outcome, Fault<StepFault>>
     ensures step { (p : ProfileView) → IsSteady (shown_by p parts.old) → Makes p (step.Wake client) parts.old result parts.new }
     ensures clients { length parts.new.clients.items ≡ length parts.old.clients.items }
 {
     if client as usize >= parts.clients.len() {
-        return Err(StepFault::NoClient { n: client });
+        return Err(Fault::Refused(StepFault::NoClient { n: client }));
     }
     parts.clients[client as usize].wake();
     Ok(Outcome::Woken { client })
@@ -103,18 +103,18 @@ pub fn watch(
     parts: &mut WorldParts,
     client: u32,
     id: i64,
-) -> Result<Outcome, StepFault>
+) -> Result<Outcome, Fault<StepFault>>
     ensures step { (p : ProfileView) → IsSteady (shown_by p parts.old) → Makes p (step.Watch client id) parts.old result parts.new }
     ensures clients { length parts.new.clients.items ≡ length parts.old.clients.items }
 {
     if client as usize >= parts.clients.len() {
-        return Err(StepFault::NoClient { n: client });
+        return Err(Fault::Refused(StepFault::NoClient { n: client }));
     }
     let refused = match parts.clients[client as usize].watch(alloc, id) {
         Ok(()) => None,
         Err(WatchFault::Already) => Some(WatchFault::Already),
         Err(WatchFault::TooMany) => Some(WatchFault::TooMany),
-        Err(WatchFault::Memory) => return Err(StepFault::Memory),
+        Err(WatchFault::Memory) => return Err(Fault::Memory),
     };
     Ok(Outcome::Watched {
         client,
@@ -124,12 +124,12 @@ pub fn watch(
 }
 
 /// A client begins anew.
-pub fn restart(parts: &mut WorldParts, client: u32) -> Result<Outcome, StepFault>
+pub fn restart(parts: &mut WorldParts, client: u32) -> Result<Outcome, Fault<StepFault>>
     ensures step { (p : ProfileView) → IsSteady (shown_by p parts.old) → Makes p (step.Restart client) parts.old result parts.new }
     ensures clients { length parts.new.clients.items ≡ length parts.old.clients.items }
 {
     if client as usize >= parts.clients.len() {
-        return Err(StepFault::NoClient { n: client });
+        return Err(Fault::Refused(StepFault::NoClient { n: client }));
     }
     parts.clients[client as usize].restart();
     Ok(Outcome::Restarted { client })

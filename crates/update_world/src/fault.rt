@@ -1,5 +1,4 @@
 //! Why a step is not made.
-use std::alloc::{AllocError, AllocFailed};
 use thiserror::Error;
 
 /// Why a step is not made. Where several causes hold, the first in this order is answered.
@@ -15,28 +14,4 @@ pub enum StepFault {
     /// All packets would come to so many bytes, more than `MAX_POOL_BYTES`.
     #[error("the pool would have {bytes} bytes")]
     PoolFull { bytes: u32 },
-    #[error("out of memory")]
-    Memory,
-}
-
-impl From<AllocError> for StepFault {
-    ghost use Rattle.std.specs.Prelude.{◌≡◌};
-    ghost use Rattle.update_world.specs.declared.fault.StepFault.TheVariants.{Memory};
-
-    ghost from_gives = { λ _ e. e ≡ Memory };
-
-    fn from(_e: AllocError) -> StepFault {
-        StepFault::Memory
-    }
-}
-
-impl<T: Drop> From<AllocFailed<T>> for StepFault {
-    ghost use Rattle.std.specs.Prelude.{◌≡◌};
-    ghost use Rattle.update_world.specs.declared.fault.StepFault.TheVariants.{Memory};
-
-    ghost from_gives = { λ _ e. e ≡ Memory };
-
-    fn from(_e: AllocFailed<T>) -> StepFault {
-        StepFault::Memory
-    }
 }

@@ -18,4 +18,5 @@ pub use limits::{MAX_CLIENTS, MAX_POOL_BYTES};
 pub use outcome::Outcome;
 pub use report_lines::HeardAs;
 pub use sent::{End, SentPacket};
+pub use tl_base::Fault;
 pub use world::World;

@@ -11,6 +11,7 @@ use crate::limits::MAX_POOL_BYTES;
 use crate::sent::SentPacket;
 use std::alloc::Global;
 use std::marker::Model;
+use tl_base::Fault;
 
 /// All packets that were sent, in the order in which they were sent, and how many bytes they have.
 pub struct Pool {
@@ -76,14 +77,14 @@ impl Pool {
     }
 
     /// Puts packets after the others, all or none of them, and answers the number of the first. Here alone the limit is looked at.
-    pub fn send(&mut self, more: Vec<SentPacket>) -> Result<u32, StepFault>
+    pub fn send(&mut self, more: Vec<SentPacket>) -> Result<u32, Fault<StepFault>>
         requires few { length more.items ≤ MAX_ASKS }
         requires sizes { All IsPacket more.items }
         ensures { Sends self.old more.items result self.new }
     {
         let bytes = self.bytes + bytes_of(&more);
         if bytes > MAX_POOL_BYTES {
-            return Err(StepFault::PoolFull { bytes });
+            return Err(Fault::Refused(StepFault::PoolFull { bytes }));
         }
         let first = self.sent.len() as u32;
         let mut more = more;

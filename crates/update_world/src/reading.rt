@@ -29,16 +29,16 @@ pub fn frame_for(
     pool: &Pool,
     client: u32,
     packet: u32,
-) -> Result<Frame, StepFault>
+) -> Result<Frame, Fault<StepFault>>
     requires profile { IsProfile profile.now }
     requires messages { StandFor profile.now pool.now }
     ensures { FrameFor profile.now pool.now client packet result }
 {
     let Some(sent) = pool.get(packet) else {
-        return Err(StepFault::NoPacket { n: packet });
+        return Err(Fault::Refused(StepFault::NoPacket { n: packet }));
     };
     if !hears(sent.to, client) {
-        return Err(StepFault::WrongEnd { n: packet });
+        return Err(Fault::Refused(StepFault::WrongEnd { n: packet }));
     }
     Ok(sent_frame(alloc, profile, sent.bytes.as_slice())?)
 }
@@ -49,16 +49,16 @@ pub fn asked_by(
     profile: &Profile,
     pool: &Pool,
     packet: u32,
-) -> Result<Asked, StepFault>
+) -> Result<Asked, Fault<StepFault>>
     requires profile { IsProfile profile.now }
     requires messages { StandFor profile.now pool.now }
     ensures { AsksFrom profile.now pool.now packet result }
 {
     let Some(sent) = pool.get(packet) else {
-        return Err(StepFault::NoPacket { n: packet });
+        return Err(Fault::Refused(StepFault::NoPacket { n: packet }));
     };
     let End::Server { from } = sent.to else {
-        return Err(StepFault::WrongEnd { n: packet });
+        return Err(Fault::Refused(StepFault::WrongEnd { n: packet }));
     };
     let call = sent_call(alloc, profile, sent.bytes.as_slice())?;
     Ok(Asked { from, call })

@@ -13,6 +13,7 @@ use crate::spelling::send_frame;
 use box_events::{Frame, ListOf, Post, Push, Update};
 use box_server::PostFault;
 use std::alloc::Global;
+use tl_base::Fault;
 use wire_profile::Profile;
 
 /// The server receives posts. A new one is sent to every client.
@@ -22,7 +23,7 @@ pub fn post(
     parts: &mut WorldParts,
     random_id: i64,
     posts: ListOf<Post>,
-) -> Result<Outcome, StepFault>
+) -> Result<Outcome, Fault<StepFault>>
     requires { IsSteady (shown_by profile.now parts.old) }
     ensures step { Makes profile.now (step.Post random_id posts) parts.old result parts.new }
     ensures clients { parts.new.clients.items ≡ parts.old.clients.items }
@@ -41,14 +42,14 @@ pub fn post(
             }
         }
         Err(fault) => match fault {
-            PostFault::Memory => Err(StepFault::Memory),
+            PostFault::Memory => Err(Fault::Memory),
             fault => Ok(Outcome::PostRefused { fault }),
         },
     }
 }
 
 /// The server's clock shows a date.
-pub fn date(parts: &mut WorldParts, date: u32) -> Result<Outcome, StepFault>
+pub fn date(parts: &mut WorldParts, date: u32) -> Result<Outcome, Fault<StepFault>>
     requires { date < 2 ^ 31 }
     ensures step { (p : ProfileView) → IsSteady (shown_by p parts.old) → Makes p (step.Date date) parts.old result parts.new }
     ensures clients { parts.new.clients.items ≡ parts.old.clients.items }
@@ -64,7 +65,7 @@ pub fn serve(
     profile: &Profile,
     parts: &mut WorldParts,
     packet: u32,
-) -> Result<Outcome, StepFault>
+) -> Result<Outcome, Fault<StepFault>>
     requires { IsSteady (shown_by profile.now parts.old) }
     ensures step { Makes profile.now (step.Serve packet) parts.old result parts.new }
     ensures clients { parts.new.clients.items ≡ parts.old.clients.items }
@@ -83,7 +84,7 @@ pub fn too_long(
     alloc: Global,
     profile: &Profile,
     parts: &mut WorldParts,
-) -> Result<Outcome, StepFault>
+) -> Result<Outcome, Fault<StepFault>>
     requires { IsSteady (shown_by profile.now parts.old) }
     ensures step { Makes profile.now step.TooLong parts.old result parts.new }
     ensures clients { parts.new.clients.items ≡ parts.old.clients.items }
@@ -100,7 +101,7 @@ pub fn channel_too_long(
     profile: &Profile,
     parts: &mut WorldParts,
     channel_id: i64,
-) -> Result<Outcome, StepFault>
+) -> Result<Outcome, Fault<StepFault>>
     requires { IsSteady (shown_by profile.now parts.old) }
     ensures step { Makes profile.now (step.ChannelTooLong channel_id) parts.old result parts.new }
     ensures clients { parts.new.clients.items ≡ parts.old.clients.items }

@@ -16,7 +16,7 @@ use crate::sent::{End, SentPacket};
 use box_events::{Asks, Frame, Numbered};
 use box_wire::{SpellFault, spell_call, spell_frame};
 use std::alloc::{AllocError, Global};
-use tl_base::{Bytes, Memory};
+use tl_base::{Bytes, Fault, Memory};
 use wire_profile::Profile;
 
 /// Sends a frame that isn't too long, and answers its number.
@@ -26,7 +26,7 @@ pub fn send_frame(
     pool: &mut Pool,
     frame: Frame,
     to: End,
-) -> Result<u32, StepFault>
+) -> Result<u32, Fault<StepFault>>
     requires profile { IsProfile profile.now }
     requires short { frame_size frame ≤ MAX_FRAME_BYTES }
     ensures { SendsFrame profile.now frame to pool.old result pool.new }
@@ -44,7 +44,7 @@ pub fn send_calls(
     pool: &mut Pool,
     asks: &Asks,
     client: u32,
-) -> Result<u32, StepFault>
+) -> Result<u32, Fault<StepFault>>
     requires profile { IsProfile profile.now }
     requires short { All (λ n. call_size n ≤ MAX_FRAME_BYTES) asks.now }
     ensures { SendsCalls profile.now client asks.now pool.old result pool.new }

@@ -23,7 +23,7 @@ use box_events::{State, Step};
 use box_server::Server;
 use std::alloc::{AllocError, Global};
 use std::marker::Model;
-use tl_base::Memory;
+use tl_base::{Fault, Memory};
 use wire_profile::Profile;
 
 /// The world of a replay: a server, its clients, and the bytes of every message that was sent. It stands for the run of some possible steps,
@@ -31,7 +31,7 @@ use wire_profile::Profile;
 pub struct World<'s> {
     profile: Profile<'s>,
     parts: WorldParts,
-    spoiled: Option<StepFault>,
+    spoiled: Option<Fault<StepFault>>,
 }
 
 // By hand, so that each exit of an owner has one call to prove.
@@ -82,7 +82,7 @@ impl<'s> World<'s> {
 
     /// Makes a step, and answers what came of it; or refuses it by the first cause, and then all is as before. After `PoolFull` and `Memory` the
     /// world is spoiled, and answers the same again.
-    pub fn step(&mut self, alloc: Global, step: Step) -> Result<Outcome, StepFault>
+    pub fn step(&mut self, alloc: Global, step: Step) -> Result<Outcome, Fault<StepFault>>
         requires date { IsDated step }
         ensures again { AnswersAgain self.old result self.new self.old.spoiled }
         ensures happens { (w : worlds.World) → self.old.spoiled ≡ Option.None → StandsFor self.old w → Happens self.old step w result self.new }
@@ -174,7 +174,7 @@ fn make(
     profile: &Profile,
     parts: &mut WorldParts,
     step: Step,
-) -> Result<Outcome, StepFault>
+) -> Result<Outcome, Fault<StepFault>>
     requires steady { IsSteady (shown_by profile.now parts.old) }
     requires date { IsDated step }
     ensures step { Makes profile.now step parts.old result parts.new }
@@ -195,12 +195,15 @@ fn make(
 }
 
 // What an answer spoils a world by.
-fn spoil_of(answer: &Result<Outcome, StepFault>) -> Option<StepFault>
+fn spoil_of(answer: &Result<Outcome, Fault<StepFault>>) -> Option<Fault<StepFault>>
     ensures { result ≡ spoil_of answer.now }
 {
     match answer {
-        Err(StepFault::PoolFull { bytes }) => Some(StepFault::PoolFull { bytes: *bytes }),
-        Err(StepFault::Memory) => Some(StepFault::Memory),
+        Err(Fault::Refused(StepFault::PoolFull { bytes })) => {
+            let bytes = *bytes;
+            Some(Fault::Refused(StepFault::PoolFull { bytes }))
+        }
+        Err(Fault::Memory) => Some(Fault::Memory),
         _ => None,
     }
 }

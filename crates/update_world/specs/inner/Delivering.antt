@@ -4,7 +4,8 @@ use Rattle.box_events.specs.declared.replies.Frame.{Frame}
 use Rattle.box_events.specs.declared.replies.Frame.TheVariants.{Push, Reply}
 use Rattle.box_client.specs.States.{ClientState}
 use Rattle.box_client.specs.Pushes.{pushed}
-use Rattle.box_client.specs.Replies.{Cause, refuses, replied}
+use Rattle.box_client.specs.Replies.{refuses, replied}
+use Rattle.box_client.specs.declared.fault.ClientFault.{ClientFault}
 use Rattle.box_world.specs.Worlds.{after_reply}
 use Rattle.report_lines.specs.declared.heard.HeardAs.{HeardAs}
 use Rattle.report_lines.specs.declared.heard.HeardAs.TheVariants as heard
@@ -13,7 +14,7 @@ use Rattle.update_world.specs.Outcomes.{asks_it}
 -- it refuses nothing of the frame
 abbrev pub IsTaken : ClientState → Frame → Type 0
 IsTaken c (Push p) = Unit {0}
-IsTaken c (Reply n r) = (cause : Cause) → replied c n r ≡ refuses cause → ⊥
+IsTaken c (Reply n r) = (cause : ClientFault) → replied c n r ≡ refuses cause → ⊥
 
 abbrev pub after_frame : ClientState → Frame → ClientState
 after_frame c (Push p) = pushed c p

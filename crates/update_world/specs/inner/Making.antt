@@ -6,7 +6,9 @@ use Rattle.wire_profile.specs.Indexes.{ProfileView}
 use Rattle.wire_profile.specs.Profiles.{IsProfile}
 use Rattle.box_world.specs.Worlds.{World}
 use Rattle.update_world.specs.declared.fault.StepFault.{StepFault}
-use Rattle.update_world.specs.declared.fault.StepFault.TheVariants.{NoClient, NoPacket, WrongEnd, PoolFull, Memory}
+use Rattle.tl_base.specs.declared.fault.Fault.{Fault}
+use Rattle.update_world.specs.declared.fault.StepFault.TheVariants.{NoClient, NoPacket, WrongEnd, PoolFull}
+use Rattle.tl_base.specs.declared.fault.Fault.TheVariants.{Refused, Memory}
 use Rattle.update_world.specs.declared.limits.TheConstants.{MAX_POOL_BYTES}
 use Rattle.update_world.specs.declared.outcome.Outcome.{Outcome}
 use Rattle.update_world.specs.declared.parts.WorldParts.{WorldParts}
@@ -25,17 +27,17 @@ pub record IsSteady (s : Shown) : Type 0 where
   pub most : bytes_of s.pool ≤ MAX_POOL_BYTES
 
 -- what an answer spoils a world by
-abbrev pub spoil_of : Result Outcome StepFault → Option StepFault
+abbrev pub spoil_of : Result Outcome (Fault StepFault) → Option (Fault StepFault)
 spoil_of (Ok outcome) = None
-spoil_of (Err (NoClient n)) = None
-spoil_of (Err (NoPacket n)) = None
-spoil_of (Err (WrongEnd n)) = None
-spoil_of (Err (PoolFull bytes)) = Some (PoolFull bytes)
+spoil_of (Err (Refused (NoClient n))) = None
+spoil_of (Err (Refused (NoPacket n))) = None
+spoil_of (Err (Refused (WrongEnd n))) = None
+spoil_of (Err (Refused (PoolFull bytes))) = Some (Refused (PoolFull bytes))
 spoil_of (Err Memory) = Some Memory
 
-abbrev pub shown_after : ProfileView → WorldParts → Result Outcome StepFault → Shown
+abbrev pub shown_after : ProfileView → WorldParts → Result Outcome (Fault StepFault) → Shown
 shown_after p a result = record (shown_by p a) { spoiled = spoil_of result }
 
 -- parts become others by a step, in each world that they stand for
-abbrev pub Makes : ProfileView → Step → WorldParts → Result Outcome StepFault → WorldParts → Type 0
+abbrev pub Makes : ProfileView → Step → WorldParts → Result Outcome (Fault StepFault) → WorldParts → Type 0
 Makes p s a result b = (w : World) → StandsFor (shown_by p a) w → Happens (shown_by p a) s w result (shown_after p b result)

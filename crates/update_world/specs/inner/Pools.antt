@@ -2,7 +2,9 @@
 use Rattle.std.specs.Prelude.{◌≡◌, ℕ, ◌*◌, ◌<◌, ◌≤◌, List, ◌++◌, length, Result, Ok, Err}
 use Rattle.box_events.specs.declared.limits.TheConstants.{MAX_FRAME_BYTES}
 use Rattle.update_world.specs.declared.fault.StepFault.{StepFault}
-use Rattle.update_world.specs.declared.fault.StepFault.TheVariants.{NoClient, NoPacket, WrongEnd, PoolFull, Memory}
+use Rattle.tl_base.specs.declared.fault.Fault.{Fault}
+use Rattle.update_world.specs.declared.fault.StepFault.TheVariants.{NoClient, NoPacket, WrongEnd, PoolFull}
+use Rattle.tl_base.specs.declared.fault.Fault.TheVariants.{Refused, Memory}
 use Rattle.update_world.specs.declared.limits.TheConstants.{MAX_POOL_BYTES}
 use Rattle.update_world.specs.declared.sent.SentPacket.{SentPacket}
 use Rattle.update_world.specs.Shown.{bytes_of}
@@ -19,10 +21,10 @@ pub record IsPool (ss : List SentPacket) (bytes : ℕ) : Type 0 where
 
 -- What comes of putting packets into a pool, all or none of them: they stand after the others, from the number that is answered; there would
 -- be too many bytes; or there is no memory.
-abbrev pub Sends : List SentPacket → List SentPacket → Result ℕ StepFault → List SentPacket → Type 0
+abbrev pub Sends : List SentPacket → List SentPacket → Result ℕ (Fault StepFault) → List SentPacket → Type 0
 Sends old more (Ok first) new = (first ≡ length old) × (new ≡ old ++ more) × (bytes_of new ≤ MAX_POOL_BYTES)
-Sends old more (Err (NoClient n)) new = ⊥
-Sends old more (Err (NoPacket n)) new = ⊥
-Sends old more (Err (WrongEnd n)) new = ⊥
-Sends old more (Err (PoolFull bytes)) new = (bytes ≡ bytes_of (old ++ more)) × (MAX_POOL_BYTES < bytes)
+Sends old more (Err (Refused (NoClient n))) new = ⊥
+Sends old more (Err (Refused (NoPacket n))) new = ⊥
+Sends old more (Err (Refused (WrongEnd n))) new = ⊥
+Sends old more (Err (Refused (PoolFull bytes))) new = (bytes ≡ bytes_of (old ++ more)) × (MAX_POOL_BYTES < bytes)
 Sends old more (Err Memory) new = Unit {0}

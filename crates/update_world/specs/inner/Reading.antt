@@ -10,7 +10,9 @@ use Rattle.box_wire.specs.Kinds.{calls, frames}
 use Rattle.box_world.specs.Worlds.{Packet}
 use Rattle.box_world.specs.Fitting.{CallFits, FrameFits, IsHearable}
 use Rattle.update_world.specs.declared.fault.StepFault.{StepFault}
-use Rattle.update_world.specs.declared.fault.StepFault.TheVariants.{NoClient, NoPacket, WrongEnd, PoolFull, Memory}
+use Rattle.tl_base.specs.declared.fault.Fault.{Fault}
+use Rattle.update_world.specs.declared.fault.StepFault.TheVariants.{NoClient, NoPacket, WrongEnd, PoolFull}
+use Rattle.tl_base.specs.declared.fault.Fault.TheVariants.{Refused, Memory}
 use Rattle.update_world.specs.declared.reading.Asked.{Asked}
 use Rattle.update_world.specs.declared.sent.SentPacket.{SentPacket}
 use Rattle.update_world.specs.declared.sent.End.{End}
@@ -58,12 +60,12 @@ pub record IsNotFor (pool : List SentPacket) (k m : ℕ) : Type 0 where
   pub there : slice_get pool m ≡ Some sent
   pub to : hears k sent.to ≡ false
 
-abbrev pub FrameFor : ProfileView → List SentPacket → ℕ → ℕ → Result Frame StepFault → Type 0
+abbrev pub FrameFor : ProfileView → List SentPacket → ℕ → ℕ → Result Frame (Fault StepFault) → Type 0
 FrameFor p pool k m (Ok f) = HasFrameFor p pool k m f
-FrameFor p pool k m (Err (NoClient n)) = ⊥
-FrameFor p pool k m (Err (NoPacket n)) = (n ≡ m) × (length pool ≤ m)
-FrameFor p pool k m (Err (WrongEnd n)) = (n ≡ m) × IsNotFor pool k m
-FrameFor p pool k m (Err (PoolFull bytes)) = ⊥
+FrameFor p pool k m (Err (Refused (NoClient n))) = ⊥
+FrameFor p pool k m (Err (Refused (NoPacket n))) = (n ≡ m) × (length pool ≤ m)
+FrameFor p pool k m (Err (Refused (WrongEnd n))) = (n ≡ m) × IsNotFor pool k m
+FrameFor p pool k m (Err (Refused (PoolFull bytes))) = ⊥
 FrameFor p pool k m (Err Memory) = Unit {0}
 
 -- the packet of this number is a client's request
@@ -84,10 +86,10 @@ pub record IsNoCall (pool : List SentPacket) (m : ℕ) : Type 0 where
   pub there : slice_get pool m ≡ Some sent
   pub to : is_request sent.to ≡ false
 
-abbrev pub AsksFrom : ProfileView → List SentPacket → ℕ → Result Asked StepFault → Type 0
+abbrev pub AsksFrom : ProfileView → List SentPacket → ℕ → Result Asked (Fault StepFault) → Type 0
 AsksFrom p pool m (Ok a) = HasCallFrom p pool m a
-AsksFrom p pool m (Err (NoClient n)) = ⊥
-AsksFrom p pool m (Err (NoPacket n)) = (n ≡ m) × (length pool ≤ m)
-AsksFrom p pool m (Err (WrongEnd n)) = (n ≡ m) × IsNoCall pool m
-AsksFrom p pool m (Err (PoolFull bytes)) = ⊥
+AsksFrom p pool m (Err (Refused (NoClient n))) = ⊥
+AsksFrom p pool m (Err (Refused (NoPacket n))) = (n ≡ m) × (length pool ≤ m)
+AsksFrom p pool m (Err (Refused (WrongEnd n))) = (n ≡ m) × IsNoCall pool m
+AsksFrom p pool m (Err (Refused (PoolFull bytes))) = ⊥
 AsksFrom p pool m (Err Memory) = Unit {0}

@@ -8,14 +8,15 @@ use Rattle.wire_values.specs.Frames.{frame_tree}
 use Rattle.box_wire.specs.Framing.{Framed}
 use Rattle.box_wire.specs.Kinds.{calls, frames}
 use Rattle.update_world.specs.declared.fault.StepFault.{StepFault}
-use Rattle.update_world.specs.declared.fault.StepFault.TheVariants.{Memory}
+use Rattle.tl_base.specs.declared.fault.Fault.{Fault}
+use Rattle.tl_base.specs.declared.fault.Fault.TheVariants.{Memory}
 use Rattle.update_world.specs.declared.sent.SentPacket.{SentPacket}
 use Rattle.update_world.specs.declared.sent.End.{End}
 use Rattle.update_world.specs.declared.sent.End.TheVariants.{Server}
 use Rattle.update_world.specs.inner.Pools.{Sends}
 
 -- a frame is sent to an end
-abbrev pub SendsFrame : ProfileView → Frame → End → List SentPacket → Result ℕ StepFault → List SentPacket → Type 0
+abbrev pub SendsFrame : ProfileView → Frame → End → List SentPacket → Result ℕ (Fault StepFault) → List SentPacket → Type 0
 SendsFrame p f to old result new = (result ≡ Err Memory) ⊎ ((b : List ℕ) × Framed p frames (frame_tree f) b × Sends old (record { bytes = b; to = to } ∷ []) result new)
 
 -- packets are the requests of client k, one by one
@@ -26,5 +27,5 @@ AreAsked p k [] (s ∷ ss) = ⊥
 AreAsked p k (n ∷ ns) [] = ⊥
 
 -- the requests of client k are sent, all or none of them
-abbrev pub SendsCalls : ProfileView → ℕ → List Numbered → List SentPacket → Result ℕ StepFault → List SentPacket → Type 0
+abbrev pub SendsCalls : ProfileView → ℕ → List Numbered → List SentPacket → Result ℕ (Fault StepFault) → List SentPacket → Type 0
 SendsCalls p k asks old result new = (result ≡ Err Memory) ⊎ ((more : List SentPacket) × AreAsked p k asks more × Sends old more result new)

@@ -8,6 +8,7 @@ use Rattle.box_events.specs.declared.steps.Step.TheVariants as step
 use Rattle.box_client.specs.Asking.{ticks}
 use Rattle.box_world.specs.Sizes.{call_size}
 use Rattle.update_world.specs.declared.fault.StepFault.{StepFault}
+use Rattle.tl_base.specs.declared.fault.Fault.{Fault}
 use Rattle.update_world.specs.inner.Making.{shown_by}
 use Rattle.update_world.specs.inner.Sending.{SendsCalls}
 use Rattle.update_world.specs.declared.parts.WorldParts.{WorldParts}
@@ -33,7 +34,7 @@ returns-in_err-first-clause-step c = λ w st.
     let a : WorldParts = c.args.parts.now in
     let b : WorldParts = record { server = a.server; clients = with_item a.clients c.args.client c.tick.new.self; pool = c.send_calls.new.pool } in
     let lt : c.args.client < length a.clients.items = omega (arith, c.if-client-len.false, c.len.ensures, a.clients.ok.0) in
-    let e : StepFault = c.in_err-first.field-0.0 in
+    let e : Fault StepFault = c.in_err-first.field-0.0 in
     let sends : SendsCalls c.args.profile.now c.args.client (ticks c.index_mut.result.now).asks a.pool (Err e) c.send_calls.new.pool =
     subst (λ (ns : List Numbered). SendsCalls c.args.profile.now c.args.client ns a.pool (Err e) c.send_calls.new.pool) c.tick.ensures.asks c.in_err-first.ensures in
     let p = err_from_is_err_and c.from_residual.result c.from_residual.ensures.1 in

@@ -6,6 +6,7 @@ use Rattle.box_events.specs.declared.limits.TheConstants.{MAX_FRAME_BYTES}
 use Rattle.box_events.specs.declared.requests.Numbered.{Numbered}
 use Rattle.box_world.specs.Sizes.{call_size}
 use Rattle.update_world.specs.declared.fault.StepFault.{StepFault}
+use Rattle.tl_base.specs.declared.fault.Fault.{Fault}
 use Rattle.update_world.specs.declared.sent.SentPacket.{SentPacket}
 use Rattle.update_world.specs.inner.Sending.{AreAsked}
 use Rattle.update_world.proofs.Carried.{all_at, all_packets, asked_more, take_whole}
@@ -31,7 +32,7 @@ send-requires-clause-sizes c =
 pub returns-in_err-bytes : goal.returns-in_err-bytes
 returns-in_err-bytes c =
     let p = err_from_is_err_and c.from_residual-in_err-bytes.result c.from_residual-in_err-bytes.ensures.1 in
-    inl (p.1 ∙ ap (λ (e : StepFault). Err e) p.2)
+    inl (p.1 ∙ ap (λ (e : Fault StepFault). Err e) p.2)
 
 pub returns : goal.returns
 returns c =

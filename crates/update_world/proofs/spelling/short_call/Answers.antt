@@ -2,4 +2,4 @@ use Rattle.update_world.proofs.Carried.{call_not_long}
 use Rattle.update_world.proofs.spelling.short_call.Goals as goal
 
 pub unreachable-requires : goal.unreachable-requires
-unreachable-requires c = call_not_long c.args.profile.now c.requires.profile c.args.call.now c.in-Err-TooLong.field-0-0 c.requires.short (rw c.in-Err-TooLong.field-0-is at c.in-Err-TooLong.ensures)
+unreachable-requires c = call_not_long c.args.profile.now c.requires.profile c.args.call.now c.in-Err-TooLong.field-0-0 c.requires.short (rw c.in-Err-TooLong.field-0-is at c.in-Err-TooLong.ensures.spelled)

@@ -1,5 +1,0 @@
-use Rattle.update_commands.proofs.ReplayingLaws as laws
-use Rattle.update_commands.proofs.runs.replay_ends.Goals as goal
-
-pub returns : goal.returns
-returns c = laws.replay_ends
