@@ -12,7 +12,7 @@ use Rattle.box_server.specs.declared.store_fault.KeepFault.{KeepFault}
 use Rattle.box_server.specs.declared.store_fault.KeepFault.TheVariants as keeping
 use Rattle.box_server.specs.declared.store_fault.StoreFault.{StoreFault}
 use Rattle.box_server.specs.declared.store_fault.StoreFault.TheVariants as storing
-use Rattle.box_server.specs.Answering.{TakesThem, taken_after}
+use Rattle.box_server.specs.Answering.{TakesPosts, kept_after}
 use Rattle.box_server.specs.inner.Taking.{Adds, IsPlan, Takes, store_answer}
 use Rattle.box_server.proofs.Taken.{taken_by}
 use Rattle.box_server.specs.declared.fault.PostFault.{PostFault}
@@ -130,12 +130,12 @@ module _ {K : Type 0} (state : K → KeeperState) (j k : K) (s t : ServerState) 
   tells_taken (Err keeping.Memory) small takes adds tells = subst (λ (i : K). Tells (state i).entries t) (sym adds) (subst (λ (u : ServerState). Tells (state j).entries u) (sym takes) tells)
 
   -- and answers as its server
-  pub posts_taken : (r : Result Posted KeepFault) → Takes s id d r t → Adds state j k (entry_at n) r → TakesThem (record { keeper = j; server = s }) id ps (store_answer r) (record { keeper = k; server = t })
+  pub posts_taken : (r : Result Posted KeepFault) → Takes s id d r t → Adds state j k (entry_at n) r → TakesPosts (record { keeper = j; server = s }) id ps (store_answer r) (record { keeper = k; server = t })
   posts_taken (Ok p) takes adds = taken_so s t id ps p (taken_by s t id ps keys d p plan takes)
   posts_taken (Err keeping.Failed) takes adds = (fresh, takes)
   posts_taken (Err keeping.Memory) takes adds = λ i. record { keeper = adds i; server = takes i }
 
-  pub entries_taken : (r : Result Posted KeepFault) → Adds state j k (entry_at n) r → (state k).entries ≡ with_more (taken_after (record { keeper = j; server = s }) id ps (store_answer r)) (state j).entries
+  pub entries_taken : (r : Result Posted KeepFault) → Adds state j k (entry_at n) r → (state k).entries ≡ with_more (kept_after (record { keeper = j; server = s }) id ps (store_answer r)) (state j).entries
   entries_taken (Ok p) adds = entries_new (state j).entries (state k).entries s id ps fresh (added_at adds.0)
   entries_taken (Err keeping.Failed) adds = adds.0 ∙ with_none (state j).entries
   entries_taken (Err keeping.Memory) adds = ap (λ (i : K). (state i).entries) adds ∙ with_none (state j).entries

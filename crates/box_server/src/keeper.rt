@@ -24,7 +24,7 @@ pub trait Keeper {
         ensures entries { (state self.new).entries ≡ (state self.old).entries }
         ensures used { Keeps (state self.old) (state self.new) (IsErrOf result GetFault.Failed) (λ _. ⊤) };
 
-    /// Appends an entry. After a fault the entries are as before.
+    /// Appends an entry. After a fault the entries are as before, of a keeper that tells them; one that tells none, as a database, may have the new one.
     fn add(&mut self, entry: Entry) -> Result<(), Failed>
         ensures added { OnOk result ((state self.new).entries ≡ with_more (entry ∷ []) (state self.old).entries) }
         ensures unchanged { OnErr result ((state self.new).entries ≡ (state self.old).entries) }

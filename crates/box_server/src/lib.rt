@@ -39,6 +39,6 @@ pub use mem_keeper::MemKeeper;
 pub use no_keeper::NoKeeper;
 pub use posted::Posted;
 pub use server::Server;
-pub use store_fault::{GetFault, OpenFault, StoreFault, StoreRefusal};
+pub use store_fault::{GetFault, KeepFault, OpenFault, StoreFault, Unopened};
 pub use store_laws::{entries_rebuild_servers, only_new_posts_add};
 pub use stored::Stored;

@@ -6,40 +6,10 @@ ghost use Rattle.box_server.specs.inner.Loading.{Loads, Accepted};
 
 use crate::entry::Entry;
 use crate::keeper::Keeper;
-use crate::store_fault::GetFault;
+use crate::store_fault::{GetFault, OpenFault};
 use crate::{PostFault, Server};
 use std::alloc::AllocError;
-use tl_base::{Failed, Memory};
-
-/// Why entries are not loaded.
-#[derive(Clone, Copy)]
-pub enum LoadFault {
-    BadEntry { n: u32 },
-    Failed,
-    Memory,
-}
-
-impl From<Failed> for LoadFault {
-    ghost use Rattle.std.specs.Prelude.{◌≡◌};
-    ghost use Rattle.box_server.specs.declared.loading.LoadFault.TheVariants as load;
-
-    ghost from_gives = { λ _ e. e ≡ load.Failed };
-
-    fn from(_e: Failed) -> LoadFault {
-        LoadFault::Failed
-    }
-}
-
-impl From<Memory> for LoadFault {
-    ghost use Rattle.std.specs.Prelude.{◌≡◌};
-    ghost use Rattle.box_server.specs.declared.loading.LoadFault.TheVariants as load;
-
-    ghost from_gives = { λ _ e. e ≡ load.Memory };
-
-    fn from(_e: Memory) -> LoadFault {
-        LoadFault::Memory
-    }
-}
+use tl_base::Memory;
 
 // Sets an entry's date and posts its posts. Tells whether they were accepted.
 fn accept(server: &mut Server, entry: &Entry) -> Result<bool, Memory>
@@ -57,22 +27,22 @@ fn accept(server: &mut Server, entry: &Entry) -> Result<bool, Memory>
 }
 
 /// Posts all entries to an empty server.
-pub fn load<K: Keeper>(keeper: &mut K, server: &mut Server) -> Result<(), LoadFault>
+pub fn load<K: Keeper>(keeper: &mut K, server: &mut Server) -> Result<(), OpenFault>
     requires { server.old ≡ new_server }
     ensures loads { IfSome (K.state keeper.old).entries (λ es. Loads es server.new result) }
     ensures entries { (K.state keeper.new).entries ≡ (K.state keeper.old).entries }
-    ensures used { Keeps (K.state keeper.old) (K.state keeper.new) (IsErrOf result LoadFault.Failed) (λ _. ⊤) }
+    ensures used { Keeps (K.state keeper.old) (K.state keeper.new) (IsErrOf result OpenFault.Failed) (λ _. ⊤) }
 {
     let count = keeper.count()?;
     let mut n = 0u32;
     while n < count {
         let entry = match keeper.get(n) {
             Ok(entry) => entry,
-            Err(GetFault::Failed) => return Err(LoadFault::Failed),
-            Err(GetFault::Memory) => return Err(LoadFault::Memory),
+            Err(GetFault::Failed) => return Err(OpenFault::Failed),
+            Err(GetFault::Memory) => return Err(OpenFault::Memory),
         };
         if !accept(server, &entry)? {
-            return Err(LoadFault::BadEntry { n });
+            return Err(OpenFault::BadEntry { n });
         }
         n += 1;
     }

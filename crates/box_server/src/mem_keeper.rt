@@ -138,9 +138,7 @@ impl Keeper for MemKeeper {
             self.faults = self.faults.saturating_add(1);
             return Err(Failed);
         }
-        match self.entries.push(entry) {
-            Ok(()) => Ok(()),
-            Err(_) => unreachable!(),
-        }
+        self.entries.push_reserved(entry);
+        Ok(())
     }
 }

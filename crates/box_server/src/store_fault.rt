@@ -1,9 +1,8 @@
 //! Why a keeper gives no entry, why a store is not opened, and why it takes no posts.
 use crate::PostFault;
-use crate::keeper::Keeper;
-use crate::stored::Stored;
 use std::alloc::{AllocError, AllocFailed};
 use thiserror::Error;
+use tl_base::Failed;
 
 /// Why a keeper gives no entry.
 #[derive(Clone, Copy, Debug, Error)]
@@ -25,13 +24,43 @@ impl From<AllocError> for GetFault {
     }
 }
 
-/// Why a store is not opened. The keeper comes back.
-#[derive(Drop)]
-pub enum OpenFault<K> {
+/// Why a store is not opened.
+#[derive(Clone, Copy)]
+pub enum OpenFault {
     /// Entry `n`, from 0, is not accepted.
-    BadEntry { keeper: K, n: u32 },
-    Failed { keeper: K },
-    Memory { keeper: K },
+    BadEntry { n: u32 },
+    /// A call to the keeper failed.
+    Failed,
+    Memory,
+}
+
+impl From<Failed> for OpenFault {
+    ghost use Rattle.std.specs.Prelude.{◌≡◌};
+    ghost use Rattle.box_server.specs.declared.store_fault.OpenFault.TheVariants as opening;
+
+    ghost from_gives = { λ _ e. e ≡ opening.Failed };
+
+    fn from(_e: Failed) -> OpenFault {
+        OpenFault::Failed
+    }
+}
+
+impl From<AllocError> for OpenFault {
+    ghost use Rattle.std.specs.Prelude.{◌≡◌};
+    ghost use Rattle.box_server.specs.declared.store_fault.OpenFault.TheVariants as opening;
+
+    ghost from_gives = { λ _ e. e ≡ opening.Memory };
+
+    fn from(_e: AllocError) -> OpenFault {
+        OpenFault::Memory
+    }
+}
+
+/// A keeper that was not opened, and why.
+#[derive(Drop)]
+pub struct Unopened<K> {
+    pub keeper: K,
+    pub fault: OpenFault,
 }
 
 /// Why a post is not kept, and so not taken.
@@ -64,7 +93,7 @@ impl<T: Drop> From<AllocFailed<T>> for KeepFault {
     }
 }
 
-/// Why a store takes no posts. It is whole, its server is as before, and so are its keeper's entries.
+/// Why a store takes no posts. Its server is as before, and so are the entries of a keeper that tells them.
 #[derive(Clone, Copy)]
 pub enum StoreFault {
     /// The server refuses them, not for memory.
@@ -72,15 +101,4 @@ pub enum StoreFault {
     /// A call to the keeper failed.
     Failed,
     Memory,
-}
-
-/// Why a store takes no posts, with what comes back.
-#[derive(Drop)]
-pub enum StoreRefusal<K: Keeper> {
-    /// The server refuses them, not for memory. Nothing changed.
-    Refused { store: Stored<K>, fault: PostFault },
-    /// The keeper failed. Its entries are as before, and it may be opened again.
-    Failed { keeper: K },
-    /// Nothing changed.
-    Memory { store: Stored<K> },
 }

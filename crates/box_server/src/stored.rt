@@ -5,16 +5,16 @@ ghost use Rattle.box_server.specs.Keeping.{Keeps, with_more};
 ghost use Rattle.box_server.specs.Rebuilding.{kept_of};
 ghost use Rattle.box_server.specs.Sound.{IsSound};
 ghost use Rattle.box_server.specs.Storing.{Tells};
-ghost use Rattle.box_server.specs.Answering.{Opens, opened_keeper, IsOpenFailed, TakesThem, taken_after, TakesPosts, IsPostFailed, kept_keeper, kept_after};
+ghost use Rattle.box_server.specs.Answering.{Opens, opened_keeper, IsOpenFailed, TakesPosts, kept_after};
 ghost use Rattle.box_server.specs.declared.store_fault.StoreFault.TheVariants.{Failed};
 ghost use Rattle.box_server.specs.inner.Taking.{store_answer};
 
 use crate::entry::{Entry, Posts};
 use crate::keeper::Keeper;
-use crate::loading::{LoadFault, load};
+use crate::loading::load;
 use crate::no_keeper::NoKeeper;
 use crate::prepared::Prepared;
-use crate::store_fault::{KeepFault, OpenFault, StoreFault, StoreRefusal};
+use crate::store_fault::{KeepFault, StoreFault, Unopened};
 use crate::{PostFault, Posted, Server};
 use std::alloc::Global;
 use std::marker::Model;
@@ -49,7 +49,7 @@ impl<K: Keeper> Model for Stored<K> {
 
 impl<K: Keeper> Stored<K> {
     /// Opens a store: the server that the keeper's entries rebuild. An entry that isn't accepted is told by its number.
-    pub fn open(alloc: Global, keeper: K) -> Result<Stored<K>, OpenFault<K>>
+    pub fn open(alloc: Global, keeper: K) -> Result<Stored<K>, Unopened<K>>
         ensures opens { IfSome (K.state keeper).entries (λ es. Opens es result) }
         ensures entries { (K.state (opened_keeper result)).entries ≡ (K.state keeper).entries }
         ensures used { Keeps (K.state keeper) (K.state (opened_keeper result)) (IsOpenFailed result) (λ _. ⊤) }
@@ -58,18 +58,16 @@ impl<K: Keeper> Stored<K> {
         let mut server = Server::new(alloc);
         match load(&mut keeper, &mut server) {
             Ok(()) => Ok(Stored { keeper, server }),
-            Err(LoadFault::BadEntry { n }) => Err(OpenFault::BadEntry { keeper, n }),
-            Err(LoadFault::Failed) => Err(OpenFault::Failed { keeper }),
-            Err(LoadFault::Memory) => Err(OpenFault::Memory { keeper }),
+            Err(fault) => Err(Unopened { keeper, fault }),
         }
     }
 
     /// Takes posts as the server does. New ones are kept first, once nothing else can fail: where the keeper fails, or memory runs out, the server is
     /// as before, and nothing is answered.
-    pub fn take(&mut self, random_id: i64, posts: Posts) -> Result<Posted, StoreFault>
-        ensures posts { TakesThem self.old random_id posts result self.new }
+    pub fn post(&mut self, random_id: i64, posts: Posts) -> Result<Posted, StoreFault>
+        ensures posts { TakesPosts self.old random_id posts result self.new }
         ensures sound { IsSound self.old.server }
-        ensures entries { (K.state self.new.keeper).entries ≡ with_more (taken_after self.old random_id posts result) (K.state self.old.keeper).entries }
+        ensures entries { (K.state self.new.keeper).entries ≡ with_more (kept_after self.old random_id posts result) (K.state self.old.keeper).entries }
         ensures used { Keeps (K.state self.old.keeper) (K.state self.new.keeper) (IsErrOf result Failed) (λ es. length (es ++ kept_of self.old.server random_id posts) ≤ (K.state self.old.keeper).room) }
     {
         let prepared = match self.server.prepare(random_id, posts.as_slice()) {
@@ -90,23 +88,6 @@ impl<K: Keeper> Stored<K> {
                 };
                 store_answer(self.server.take(keys, draft, &mut self.keeper, entry))
             }
-        }
-    }
-
-    /// Takes posts as `take` does, and hands the store on. Where the keeper fails, it alone comes back.
-    pub fn post(self, random_id: i64, posts: Posts) -> Result<(Stored<K>, Posted), StoreRefusal<K>>
-        ensures posts { TakesPosts self random_id posts result }
-        ensures entries { (K.state (kept_keeper result)).entries ≡ with_more (kept_after self random_id posts result) (K.state self.keeper).entries }
-        ensures used { Keeps (K.state self.keeper) (K.state (kept_keeper result)) (IsPostFailed result) (λ es. length (es ++ kept_of self.server random_id posts) ≤ (K.state self.keeper).room) }
-    {
-        let mut store = self;
-        match store.take(random_id, posts) {
-            Ok(posted) => Ok((store, posted)),
-            Err(StoreFault::Refused { fault }) => Err(StoreRefusal::Refused { store, fault }),
-            Err(StoreFault::Failed) => Err(StoreRefusal::Failed {
-                keeper: store.into_keeper(),
-            }),
-            Err(StoreFault::Memory) => Err(StoreRefusal::Memory { store }),
         }
     }
 

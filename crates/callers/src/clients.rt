@@ -4,7 +4,7 @@ ghost use Rattle.box_client.specs.Asking.{ticks};
 ghost use Rattle.box_client.specs.Pushes.{pushed};
 ghost use Rattle.box_client.specs.Ranges.{IsPushInRange, IsReplyInRange};
 
-use box_client::{Client, ClientFault, ReplyOutcome};
+use box_client::{Client, ClientFault, Fault, ReplyOutcome};
 use box_events::{Asks, Push, Reply};
 use std::alloc::Global;
 use tl_base::Memory;
@@ -33,7 +33,7 @@ pub fn take_reply(
     client: &mut Client,
     number: u32,
     reply: Reply,
-) -> Result<bool, ClientFault>
+) -> Result<bool, Fault<ClientFault>>
     requires range { IsReplyInRange reply }
     ensures unchanged { OnErr result (client.new ≡ client.old) }
 {

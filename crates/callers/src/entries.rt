@@ -4,7 +4,7 @@ ghost use Rattle.box_server.specs.Receiving.{post_answer};
 ghost use Rattle.box_server.specs.Keeping.{with_more};
 ghost use Rattle.box_server.specs.Rebuilding.{kept_of, rebuilt};
 
-use box_server::{Keeper, OpenFault, Posted, Posts, StoreRefusal, Stored};
+use box_server::{Keeper, Posted, Posts, Stored};
 use std::alloc::Global;
 
 /// Opens a store, takes posts, and gives the keeper back, with what was answered.
@@ -17,16 +17,12 @@ pub fn post_once<K: Keeper>(
     ensures answer { IfSome (K.state keeper).entries (λ es. IfSome result.1 (λ posted. Ok posted ≡ post_answer (rebuilt es) random_id posts)) }
     ensures kept { IfSome (K.state keeper).entries (λ es. OnSome result.1 ((K.state result.0).entries ≡ with_more (kept_of (rebuilt es) random_id posts) (K.state keeper).entries)) }
 {
-    let store = match Stored::open(alloc, keeper) {
+    let mut store = match Stored::open(alloc, keeper) {
         Ok(store) => store,
-        Err(OpenFault::BadEntry { keeper, .. }) => return (keeper, None),
-        Err(OpenFault::Failed { keeper }) => return (keeper, None),
-        Err(OpenFault::Memory { keeper }) => return (keeper, None),
+        Err(unopened) => return (unopened.keeper, None),
     };
     match store.post(random_id, posts) {
-        Ok((store, posted)) => (store.into_keeper(), Some(posted)),
-        Err(StoreRefusal::Refused { store, .. }) => (store.into_keeper(), None),
-        Err(StoreRefusal::Failed { keeper }) => (keeper, None),
-        Err(StoreRefusal::Memory { store }) => (store.into_keeper(), None),
+        Ok(posted) => (store.into_keeper(), Some(posted)),
+        Err(_) => (store.into_keeper(), None),
     }
 }

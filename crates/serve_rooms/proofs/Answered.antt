@@ -30,7 +30,7 @@ use Rattle.update_sessions.specs.declared.fault.TheConstants.{MAX_FRAMES}
 use Rattle.update_sessions.specs.Kept.{kept_for}
 use Rattle.update_sessions.specs.Packed.{MeansCall, Packed, SpellsFrame}
 use Rattle.update_sessions.specs.Serving.{after_request, sent_for}
-use Rattle.update_sessions.specs.StoreEnds.{answered, out_of_memory, refused}
+use Rattle.update_sessions.specs.declared.storing.StoreSession.TheVariants as store
 use Rattle.update_sessions.specs.Turns.{AnswersPacket, LosesPost}
 use Rattle.session_commands.proofs.EachPost.{each_message}
 use Rattle.session_rooms.specs.Sending.{Sends}
@@ -170,7 +170,7 @@ module _ (p : ProfileView) where
 
       module _ (q : HostState) where
         -- it is no call
-        pub not_answered : (t : ServerState) (fault : SessionFault) → AnswersPacket p s bytes out old.entries new.entries (refused t fault) → DidKept (AnswersBytes p s bytes) (beside q old) (beside q new) (Some (fails t fault))
+        pub not_answered : (t : ServerState) (fault : SessionFault) → AnswersPacket p s bytes out old.entries new.entries t (Err (store.Session fault)) → DidKept (AnswersBytes p s bytes) (beside q old) (beside q new) (Some (fails t fault))
         not_answered t (Packet fault) h = absurd h
         not_answered t (Wire fault) h = record { trace = []; grew = record { host = grew_none q; keeper = keeper_same old new failed Fits k h.2 }; holds = no_call fault h.0 refl (ap (λ (x : ServerState). fails x (Wire fault)) h.1) }
         not_answered t (Client fault) h = absurd h
@@ -203,16 +203,16 @@ module _ (p : ProfileView) where
               (did_then (Adds (kept_for s c.request)) (after_adding p s c) (beside q old) (beside q new) (beside q new) false (Some unkept) (not_added old new failed Fits k q (kept_for s c.request) some (one_for s c.request) is broke fits_one) (did_nothing (beside q new) unkept))
 
         -- its post couldn't be kept
-        pub post_lost : failed → LosesPost p s bytes old.entries new.entries → DidKept (AnswersBytes p s bytes) (beside q old) (beside q new) (Some unkept)
-        post_lost broke h = call_lost h.call h.means h.new h.kept broke
+        pub post_lost : (t : ServerState) → failed → LosesPost p s bytes old.entries new.entries t → DidKept (AnswersBytes p s bytes) (beside q old) (beside q new) (Some unkept)
+        post_lost t broke h = call_lost h.call h.means h.new h.kept broke
 
         -- memory ran out before anything was taken, or after that
-        pub memory_lost : (t : ServerState) → BeginsKept (AnswersBytes p s bytes) [] → AnswersPacket p s bytes out old.entries new.entries (out_of_memory t) → DidKept (AnswersBytes p s bytes) (beside q old) (beside q new) None
+        pub memory_lost : (t : ServerState) → BeginsKept (AnswersBytes p s bytes) [] → AnswersPacket p s bytes out old.entries new.entries t (Err store.Memory) → DidKept (AnswersBytes p s bytes) (beside q old) (beside q new) None
         memory_lost t can (inl h) = record { trace = []; grew = record { host = grew_none q; keeper = keeper_same old new failed Fits k h.1 }; holds = can }
         memory_lost t can (inr h) = memory_then h.call h.means h.kept
 
         -- all was taken, and what is due was sent, or not
-        module _ (t : ServerState) (turned : AnswersPacket p s bytes out old.entries new.entries (answered t)) (r : HostState) where
+        module _ (t : ServerState) (turned : AnswersPacket p s bytes out old.entries new.entries t (Ok tt)) (r : HostState) where
           abbrev c : Numbered
           c = turned.0.message
 

@@ -12,8 +12,8 @@ use Rattle.serve_rooms.specs.Answering.{Answered, goes_on, has_ended, fails, unk
 use Rattle.serve_rooms.specs.Doing.{DidKept}
 use Rattle.serve_rooms.specs.declared.answering.Outcome.{Outcome}
 use Rattle.serve_rooms.specs.declared.answering.Outcome.TheVariants as outcome
-use Rattle.serve_rooms.specs.declared.answering.Stopped.{Stopped}
-use Rattle.serve_rooms.specs.declared.answering.Stopped.TheVariants as stop
+use Rattle.box_server.specs.declared.store_fault.KeepFault.{KeepFault}
+use Rattle.box_server.specs.declared.store_fault.KeepFault.TheVariants as keeping
 use Rattle.serve_rooms.specs.inner.Ends.{answered_as, answered_by, end_at, session_by}
 use Rattle.serve_rooms.proofs.Doing.{Turned, can_end, did_nothing, did_stop, did_then, loop_left, loop_stopped, turned_more}
 use Rattle.serve_rooms.proofs.Answered.{leaves_at}
@@ -51,15 +51,9 @@ module _ (p : ProfileView) where
       session_over t outcome.Ended end is h = left_by (has_ended t) (over t end) (let same : Ok n ≡ end = cc in ap (λ (e : Result ℕ SessionFault). leave (over t e)) same) h
       session_over t (outcome.Failed fault) end is h = left_by (fails t fault) (over t end) (let same : Err fault ≡ end = cc in ap (λ (e : Result ℕ SessionFault). leave (over t e)) same) h
 
-      session_lost : DidKept (AnswersNext p s) q r (Some unkept) → DidKept (Loops (AnswersOn p) start) a r (Some lost)
-      session_lost h = left_by unkept lost refl h
-
-      session_left : DidKept (AnswersNext p s) q r None → DidKept (Loops (AnswersOn p) start) a r None
-      session_left h = loop_stopped (AnswersOn p) start (s, n) a q r (leaves_at p) g (turn_stopped s n q r few h)
-
-      pub session_stopped : (K : Type 0) (stopped : Stopped K) → DidKept (AnswersNext p s) q r (answered_by {K = K} (Err stopped)) → DidKept (Loops (AnswersOn p) start) a r (session_by {K = K} (Err stopped))
-      session_stopped K (stop.Memory keeper) h = session_left h
-      session_stopped K (stop.Lost keeper) h = session_lost h
+      pub session_stopped : (t : ServerState) (fault : KeepFault) → DidKept (AnswersNext p s) q r (answered_by t (Err fault)) → DidKept (Loops (AnswersOn p) start) a r (session_by t (Err fault))
+      session_stopped t keeping.Memory h = loop_stopped (AnswersOn p) start (s, n) a q r (leaves_at p) g (turn_stopped s n q r few h)
+      session_stopped t keeping.Failed h = left_by unkept lost refl h
 
   module _ (start : Served) (s : ServerState) (n : ℕ) (a q : KeptState) (g : Turned (AnswersOn p) start a q (s, n)) where
     pub too_many : MAX_FRAMES ≤ n → DidKept (Loops (AnswersOn p) start) a q (Some (over s (Err TooManyFrames)))

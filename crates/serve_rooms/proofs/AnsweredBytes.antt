@@ -25,7 +25,7 @@ use Rattle.outside.proofs.Sparing.{writes_leave}
 use Rattle.update_sessions.specs.declared.fault.SessionFault.TheVariants as session
 use Rattle.update_sessions.specs.declared.fault.SessionFault.{SessionFault}
 use Rattle.update_sessions.specs.declared.fault.TheConstants.{MAX_FRAMES}
-use Rattle.update_sessions.specs.Kept.{StoreEnd, Stores, ended, keeper_failed, kept_for, kept_in}
+use Rattle.update_sessions.specs.Kept.{EndsSession, StoreEnd, Stores, ended, keeper_failed, kept_for, kept_in}
 use Rattle.update_sessions.specs.Packed.{MeansCall, Packed, SpellsFrame}
 use Rattle.update_sessions.specs.Receiving.{ComesFirst, Receives}
 use Rattle.update_sessions.specs.Serving.{after_request, sent_for, server_side}
@@ -38,7 +38,7 @@ use Rattle.session_rooms.proofs.LeftPackets.{packet_left}
 use Rattle.serve_rooms.specs.Acts.{Act, hosted, loaded, added, events_in}
 use Rattle.serve_rooms.specs.Answering.{Answered, goes_on, has_ended, fails, unkept, if_added, Adds, after_sending, after_adding, AnswersBytes, no_call, answers, after_packet, AnswersNext, Session, over, lost, Served, turn_of, answers_by, AnswersOn}
 use Rattle.serve_rooms.specs.Doing.{Hosted}
-use Rattle.serve_rooms.specs.ServedBytes.{SessionsAnswer, added_in, store_end}
+use Rattle.serve_rooms.specs.ServedBytes.{EndsAs, SessionsAnswer, added_in}
 use Rattle.serve_rooms.proofs.Acting.{events_hosted, events_more}
 use Rattle.serve_rooms.proofs.Keepers.{OneAtMost, one_for}
 
@@ -110,16 +110,16 @@ module _ (p : ProfileView) where
   -- ---- one packet
 
   -- as a step of a store's session
-  abbrev step_end : Answered → StoreEnd Bool
-  step_end (goes_on t) = ended t (Ok true)
-  step_end (has_ended t) = ended t (Ok false)
-  step_end (fails t fault) = ended t (Err fault)
-  step_end unkept = keeper_failed
+  abbrev step_end : ServerState → Answered → StoreEnd Bool
+  step_end s (goes_on t) = ended t (Ok true)
+  step_end s (has_ended t) = ended t (Ok false)
+  step_end s (fails t fault) = ended t (Err fault)
+  step_end s unkept = keeper_failed s
 
   module _ (es : List Entry) where
     -- a step over what an outside's link gives, in which these entries were added
     abbrev StepOver : ServerState → Answered → List Entry → Outside → Outside → Type 0
-    StepOver s r more a b = StoresNext p s (Some (given_by a)) (Some (sent_by a)) (Some (given_by b)) (Some (sent_by b)) (Some es) (Some (es ++ more)) (step_end r)
+    StepOver s r more a b = StoresNext p s (Some (given_by a)) (Some (sent_by a)) (Some (given_by b)) (Some (sent_by b)) (Some es) (Some (es ++ more)) (step_end s r)
 
     none_more : Some (es ++ []) ≡ Some es
     none_more = ap (λ (l : List Entry). Some l) (append-nil es)
@@ -200,7 +200,7 @@ module _ (p : ProfileView) where
             let no = not_added (kept_for s c.request) t (one_for s c.request) adds in
             let stays : k ≡ m = fits_none t m k no.events f in
             let here : StepOver s unkept (added_in t) a m =
-            next_failed p s c (Some (given_by a)) (Some (sent_by a)) (Some (given_by m)) (Some (sent_by m)) (given_by m, comes, refl) unmoved (Some es) (Some (es ++ added_in t)) no.some (ap (λ (l : List Entry). Some (es ++ l)) no.entries ∙ none_more) in
+            next_failed p s c (Some (given_by a)) (Some (sent_by a)) (Some (given_by m)) (Some (sent_by m)) (given_by m, comes, refl) unmoved (Some es) (Some (es ++ added_in t)) s no.some refl (ap (λ (l : List Entry). Some (es ++ l)) no.entries ∙ none_more) in
             let more : added_in t ++ added_in u ≡ added_in t = ap (λ (l : List Entry). added_in t ++ l) (ap added_in h.0) ∙ append-nil (added_in t) in
             let last : b ≡ m = fits_none u k b (ap events_in h.0) g ∙ stays in
             subst (λ (x : Answered). StepOver s x (added_in t ++ added_in u) a b) (sym h.1) (subst (λ (l : List Entry). StepOver s unkept l a b) (sym more) (subst (λ (o : Outside). StepOver s unkept (added_in t) a o) (sym last) here))
@@ -252,9 +252,17 @@ module _ (p : ProfileView) where
   again_is : (x : Served) (v : ServerState) (n : ℕ) → ◌≡◌ {A = Turn Served Session} (again x) (again (v, n + 1)) → (v, n + 1) ≡ x
   again_is x v n is = cc
 
-  -- as a session of a store ends
+  -- as a session of a store ends, with this server where its keeper failed
+  abbrev store_end : ServerState → Session → StoreEnd ℕ
+  store_end u (over t end) = ended t end
+  store_end u lost = keeper_failed u
+
+  ends_as_one : (s u : ServerState) (bytes out : List ℕ) (cs : List Numbered) (r : Session) → EndsSession p s bytes out cs (store_end u r) → EndsAs p s bytes out cs r
+  ends_as_one s u bytes out cs (over t end) h = h
+  ends_as_one s u bytes out cs lost h = h.0
+
   abbrev EndsOver : ServerState → Session → List Act → Outside → Outside → Type 0
-  EndsOver s r t a b = Stores p s (Some (given_by a)) (Some (sent_by a)) (Some (sent_by b)) (Some []) (Some (added_in t)) (store_end r)
+  EndsOver s r t a b = (u : ServerState) × Stores p s (Some (given_by a)) (Some (sent_by a)) (Some (sent_by b)) (Some []) (Some (added_in t)) (store_end u r)
 
   left_is : (r q : Session) → ◌≡◌ {A = Turn Served Session} (leave r) (leave q) → q ≡ r
   left_is r q is = cc
@@ -288,24 +296,24 @@ module _ (p : ProfileView) where
       step_over q next = next_over (added_in first) u q step m k next f
 
       -- it ends here
-      ends_as : (r q : Session) → none ≡ [] → ◌≡◌ {A = Turn Served Session} (leave r) (leave q)
-          → Stores p s (Some (given_by a)) (Some (sent_by a)) (Some (sent_by k)) (Some []) (Some (added_in first ++ added_in step)) (store_end q) → EndsOver s r t a b
-      ends_as r q empty is h =
+      ends_as : (r q : Session) (v : ServerState) → none ≡ [] → ◌≡◌ {A = Turn Served Session} (leave r) (leave q)
+          → Stores p s (Some (given_by a)) (Some (sent_by a)) (Some (sent_by k)) (Some []) (Some (added_in first ++ added_in step)) (store_end v q) → EndsOver s r t a b
+      ends_as r q v empty is h =
           let stays : b ≡ k = fits_none none k b (ap events_in empty) g in
-          let here : EndsOver s q t a k = subst (λ (l : List Entry). Stores p s (Some (given_by a)) (Some (sent_by a)) (Some (sent_by k)) (Some []) (Some l) (store_end q)) (more_is empty) h in
+          let here : EndsOver s q t a k = (v, subst (λ (l : List Entry). Stores p s (Some (given_by a)) (Some (sent_by a)) (Some (sent_by k)) (Some []) (Some l) (store_end v q)) (more_is empty) h) in
           subst (λ (x : Session). EndsOver s x t a b) (left_is r q is) (subst (λ (o : Outside). EndsOver s q t a o) (sym stays) here)
 
       ended_on : (r : Session) (q : Answered) → AnswersNext p u step q → Ends (turn_of n q) none (leave r) → EndsOver s r t a b
       ended_on r (goes_on v) next ends = absurd (let no : ◌≡◌ {A = Turn Served Session} (leave r) (again (v, n + 1)) = ends.1 in cc)
       ended_on r (has_ended v) next ends =
-          ends_as r (over v (Ok n)) ends.0 ends.1
+          ends_as r (over v (Ok n)) v ends.0 ends.1
           (stores_ended p s u n (Some (given_by a)) (Some (sent_by a)) (Some (given_by m)) (Some (sent_by m)) (Some []) (Some (added_in first)) so.many less (Some (given_by k)) (Some (sent_by k)) (Some (added_in first ++ added_in step)) v (step_over (has_ended v) next))
       ended_on r (fails v fault) next ends =
-          ends_as r (over v (Err fault)) ends.0 ends.1
+          ends_as r (over v (Err fault)) v ends.0 ends.1
           (stores_stopped p s u n (Some (given_by a)) (Some (sent_by a)) (Some (given_by m)) (Some (sent_by m)) (Some []) (Some (added_in first)) so.many less (Some (given_by k)) (Some (sent_by k)) (Some (added_in first ++ added_in step)) v fault (step_over (fails v fault) next))
       ended_on r unkept next ends =
-          ends_as r lost ends.0 ends.1
-          (stores_failed p s u n (Some (given_by a)) (Some (sent_by a)) (Some (given_by m)) (Some (sent_by m)) (Some []) (Some (added_in first)) so.many less (Some (given_by k)) (Some (sent_by k)) (Some (added_in first ++ added_in step)) (step_over unkept next))
+          ends_as r lost u ends.0 ends.1
+          (stores_failed p s u n (Some (given_by a)) (Some (sent_by a)) (Some (given_by m)) (Some (sent_by m)) (Some []) (Some (added_in first)) so.many less (Some (given_by k)) (Some (sent_by k)) (Some (added_in first ++ added_in step)) u (step_over unkept next))
 
     turn_on : (x : Served) (more : Bool) → ltb n MAX_FRAMES ≡ more → answers_by p more (u, n) rest (again x) → Fits (events_in rest) m b → Reached s x t a b
     turn_on x false is h f = absurd (let no : ◌≡◌ {A = Turn Served Session} (again x) (leave (over u (Err session.TooManyFrames))) = h.1 in cc)
@@ -317,8 +325,8 @@ module _ (p : ProfileView) where
     full_on r full h f =
         let stays : b ≡ m = fits_none rest m b (ap events_in h.0) f in
         let more : added_in first ≡ added_in t = sym (joined ∙ ap (λ (l : List Entry). added_in first ++ l) (ap added_in h.0) ∙ append-nil (added_in first)) in
-        let end : EndsOver s (over u (Err session.TooManyFrames)) first a m = stores_full p s u n (Some (given_by a)) (Some (sent_by a)) (Some (given_by m)) (Some (sent_by m)) (Some []) (Some (added_in first)) so.many full in
-        let here : EndsOver s (over u (Err session.TooManyFrames)) t a m = subst (λ (l : List Entry). Stores p s (Some (given_by a)) (Some (sent_by a)) (Some (sent_by m)) (Some []) (Some l) (ended u (Err session.TooManyFrames))) more end in
+        let end : Stores p s (Some (given_by a)) (Some (sent_by a)) (Some (sent_by m)) (Some []) (Some (added_in first)) (ended u (Err session.TooManyFrames)) = stores_full p s u n (Some (given_by a)) (Some (sent_by a)) (Some (given_by m)) (Some (sent_by m)) (Some []) (Some (added_in first)) so.many full in
+        let here : EndsOver s (over u (Err session.TooManyFrames)) t a m = (u, subst (λ (l : List Entry). Stores p s (Some (given_by a)) (Some (sent_by a)) (Some (sent_by m)) (Some []) (Some l) (ended u (Err session.TooManyFrames))) more end) in
         subst (λ (x : Session). EndsOver s x t a b) (left_is r (over u (Err session.TooManyFrames)) h.1) (subst (λ (o : Outside). EndsOver s (over u (Err session.TooManyFrames)) t a o) (sym stays) here)
 
     turn_ends : (r : Session) (more : Bool) → ltb n MAX_FRAMES ≡ more → answers_by p more (u, n) rest (leave r) → Fits (events_in rest) m b → EndsOver s r t a b
@@ -345,5 +353,5 @@ pub sessions_answer : SessionsAnswer
 sessions_answer p s t r x y h f =
     let parts = fits_parts t h.first h.rest x y h.splits f in
     let n : ℕ = h.between.1 in
-    let end = turn_ends p s h.between.0 n t h.first h.rest h.splits x parts.0 y (reached p s h.first h.between x parts.0 h.does parts.1) r (ltb n MAX_FRAMES) refl h.goes parts.2 in
-    record { sent = end.link.0; calls = end.calls; wrote = end.link.1; ends = end.link.2; entries = same_entries (added_in t) (kept_in s end.calls) end.appended }
+    let (u, end) = turn_ends p s h.between.0 n t h.first h.rest h.splits x parts.0 y (reached p s h.first h.between x parts.0 h.does parts.1) r (ltb n MAX_FRAMES) refl h.goes parts.2 in
+    record { sent = end.link.0; calls = end.calls; wrote = end.link.1; ends = ends_as_one p s u (given_by x) end.link.0 end.calls r end.link.2; entries = same_entries (added_in t) (kept_in s end.calls) end.appended }

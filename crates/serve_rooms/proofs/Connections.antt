@@ -1,5 +1,5 @@
 -- Sessions over connections, by their parts.
-use Rattle.std.proofs.Common.{◌≡◌, ℕ, ◌+◌, ◌<◌, ◌≤◌, ltb, List, [], ◌∷◌, ◌++◌, map, Bool, true, false, Option, Some, None, Result, Err, refl, sym, subst}
+use Rattle.std.proofs.Common.{◌≡◌, ℕ, ◌+◌, ◌<◌, ◌≤◌, ltb, List, [], ◌∷◌, ◌++◌, map, Bool, true, false, Option, Some, None, Result, refl, sym, subst}
 use Rattle.std.specs.Prelude.{option_map}
 use Rattle.std.proofs.lemmas.List.{append-nil}
 use Rattle.box_server.specs.Servers.{ServerState, dated_at}
@@ -23,12 +23,9 @@ use Rattle.serve_rooms.specs.Answering.{AnswersAll, Session, over, lost}
 use Rattle.serve_rooms.specs.Doing.{Hosted, IsKept, BeginsKept, DidKept}
 use Rattle.serve_rooms.specs.Telling.{Told, goes_on, is_over, TellsEnd}
 use Rattle.serve_rooms.specs.Sessions.{Next, more, no_more, keep_fault_line, TellsKeepFault, after_telling, after_session, after_moment, after_accept, ServesNext, Serving, turn_of, serves_by, ServesOn, after_listen, ServesAll}
-use Rattle.serve_rooms.specs.declared.answering.Stopped.{Stopped}
-use Rattle.serve_rooms.specs.declared.answering.Stopped.TheVariants.{Memory, Lost}
 use Rattle.serve_rooms.specs.declared.status.KeptStatus.{KeptStatus}
 use Rattle.serve_rooms.specs.declared.status.KeptStatus.TheVariants.{Run, KeepFault}
 use Rattle.serve_rooms.specs.declared.telling.Tally.{Tally}
-use Rattle.serve_rooms.specs.inner.Ends.{session_by, TellsStop}
 use Rattle.serve_rooms.proofs.AnsweredAll.{is_less, not_less}
 use Rattle.serve_rooms.proofs.Answered.{lost_at_fault}
 use Rattle.serve_rooms.proofs.Doing.{Turned, Leaves, can_end, can_host, can_last, can_then, can_then_by, did_host, did_last, did_nothing, did_stop, did_then, kept_hosted_all, loop_left, loop_stopped, turned_more}
@@ -116,22 +113,22 @@ module _ (number : ℕ) (tally : Tally) (s : ServerState) (end : Result ℕ Sess
   pub none_told : Did (TellsEnd number tally end) p q None → DidKept (after_session number tally (over s end)) (beside p k) (beside q k) None
   none_told h = did_stop (Hosted (TellsEnd number tally end)) (after_telling s) (beside p k) (beside q k) (can_after_telling s) (did_host _ p q k None h)
 
--- the keeper's fault is told
-pub keep_fault_told : (p q : HostState) (k : KeeperState) (status : KeptStatus) → Did (Tells keep_fault_line KeepFault) p q (Some status) → DidKept TellsKeepFault (beside p k) (beside q k) (Some status)
-keep_fault_told p q k status h = did_host (Tells keep_fault_line KeepFault) p q k (Some status) h
+module _ (p : ProfileView) (number now : ℕ) (s d : ServerState) (dated : d ≡ dated_at s now) (tally : Tally) (a : KeptState) where
+  by_date : (c : KeptState) (x : Option Next) → DidKept (Then (AnswersAll p d) (after_session number tally)) a c x → DidKept (after_moment p number s tally now) a c x
+  by_date c x h = subst (λ (y : ServerState). DidKept (Then (AnswersAll p y) (after_session number tally)) a c x) dated h
 
-module _ (p : ProfileView) (number now : ℕ) (s d : ServerState) (dated : d ≡ dated_at s now) (tally : Tally) (a b c : KeptState) where
-  by_date : (x : Option Next) → DidKept (Then (AnswersAll p d) (after_session number tally)) a c x → DidKept (after_moment p number s tally now) a c x
-  by_date x h = subst (λ (y : ServerState). DidKept (Then (AnswersAll p y) (after_session number tally)) a c x) dated h
+  pub session_told : (b c : KeptState) (r : ServerState) (end : Result ℕ SessionFault) (x : Option Next) → DidKept (AnswersAll p d) a b (Some (over r end)) → DidKept (after_session number tally (over r end)) b c x → DidKept (after_moment p number s tally now) a c x
+  session_told b c r end x h then_so = by_date c x (did_then (AnswersAll p d) (after_session number tally) a b c (over r end) x h then_so)
 
-  pub session_told : (r : ServerState) (end : Result ℕ SessionFault) (x : Option Next) → DidKept (AnswersAll p d) a b (Some (over r end)) → DidKept (after_session number tally (over r end)) b c x → DidKept (after_moment p number s tally now) a c x
-  session_told r end x h then_so = by_date x (did_then (AnswersAll p d) (after_session number tally) a b c (over r end) x h then_so)
+  pub session_left : (b : KeptState) → DidKept (AnswersAll p d) a b None → DidKept (after_moment p number s tally now) a b None
+  session_left b h = by_date b None (did_stop (AnswersAll p d) (after_session number tally) a b (can_after_session number tally) h)
 
-  pub session_stopped : {K : Type 0} (stopped : Stopped K) (x : Option KeptStatus) → DidKept (AnswersAll p d) a b (session_by (Err stopped)) → TellsStop stopped b c x → DidKept (after_moment p number s tally now) a c (option_map (λ status. no_more status) x)
-  session_stopped (Memory keeper) x h t =
-      by_date _ (subst (λ (y : Option KeptStatus). DidKept (Then (AnswersAll p d) (after_session number tally)) a c (option_map (λ status. no_more status) y)) (sym t.0)
-      (subst (λ (z : KeptState). DidKept (Then (AnswersAll p d) (after_session number tally)) a z None) (sym t.1) (did_stop (AnswersAll p d) (after_session number tally) a b (can_after_session number tally) h)))
-  session_stopped (Lost keeper) x h t = by_date _ (did_then (AnswersAll p d) (after_session number tally) a b c lost _ h (did_map TellsKeepFault (λ status. no_more status) b c x t))
+  -- the keeper's fault is told
+  pub session_lost : (q r : HostState) (k : KeeperState) (status : KeptStatus) → DidKept (AnswersAll p d) a (beside q k) (Some lost) → Did (Tells keep_fault_line KeepFault) q r (Some status) → DidKept (after_moment p number s tally now) a (beside r k) (Some (no_more status))
+  session_lost q r k status h told_so =
+      by_date (beside r k) (Some (no_more status))
+      (did_then (AnswersAll p d) (after_session number tally) a (beside q k) (beside r k) lost (Some (no_more status)) h
+      (did_map TellsKeepFault (λ x. no_more x) (beside q k) (beside r k) (Some status) (did_host (Tells keep_fault_line KeepFault) q r k (Some status) told_so)))
 
 module _ (p : ProfileView) (number : ℕ) (s : ServerState) (tally : Tally) (a b c : HostState) (k : KeeperState) where
   pub next_served : (now : ℕ) (e : KeptState) (x : Option Next) → Grew a (accepted true ∷ []) b → Grew b (told now ∷ []) c → DidKept (after_moment p number s tally now) (beside c k) e x → DidKept (ServesNext p number s tally) (beside a k) e x

@@ -13,5 +13,3 @@ pub mod ServeLaws
 pub mod Touching
 pub mod AnsweredBytes
 pub mod SessionEvents
-pub mod ServedNext
-pub mod ServedAll

@@ -5,6 +5,7 @@ use Rattle.box_server.specs.Servers.{new_server}
 use Rattle.box_server.specs.declared.entry.Entry.{Entry}
 use Rattle.box_server.specs.declared.store_fault.OpenFault.{OpenFault}
 use Rattle.box_server.specs.declared.store_fault.OpenFault.TheVariants as opening
+use Rattle.box_server.specs.declared.store_fault.Unopened.{Unopened}
 use Rattle.box_server.specs.Answering.{Opens, opened_keeper, IsOpenFailed}
 use Rattle.box_server.specs.Keeping.{KeeperState, Keeps}
 use Rattle.box_server.specs.Storing.{StoredView}
@@ -23,6 +24,7 @@ use Rattle.serve_rooms.specs.Serve.{OpensAndServes, after_opening}
 use Rattle.serve_rooms.specs.Sessions.{ServesAll, keep_fault_line}
 use Rattle.serve_rooms.specs.declared.status.KeptStatus.{KeptStatus}
 use Rattle.serve_rooms.specs.declared.status.KeptStatus.TheVariants.{Run, KeepFault}
+use Rattle.serve_rooms.specs.inner.Ends.{TellsUnopened}
 use Rattle.serve_rooms.proofs.Connections.{can_serve_all}
 use Rattle.serve_rooms.proofs.Doing.{did_host, did_then}
 use Rattle.serve_rooms.proofs.LoadedSchemas.{last_done}
@@ -33,7 +35,7 @@ pub starts_at : {K : Type 0} (entries : Option (List Entry)) (s : StoredView K) 
 starts_at None s h = tt
 starts_at (Some es) s h = h
 
-pub bad_at : {K : Type 0} (entries : Option (List Entry)) (keeper : K) (n : ℕ) → IfSome entries (λ es. Opens {K = K} es (Err (opening.BadEntry keeper n))) → IsBadEntry entries n
+pub bad_at : {K : Type 0} (entries : Option (List Entry)) (keeper : K) (n : ℕ) → IfSome entries (λ es. Opens {K = K} es (Err (record { keeper = keeper; fault = opening.BadEntry n }))) → IsBadEntry entries n
 bad_at None keeper n h = tt
 bad_at (Some es) keeper n h = h
 
@@ -42,13 +44,13 @@ fails_only Sound Failed None is sound failed never = absurd (let none : false �
 fails_only Sound Failed (Some es) is sound failed never = never sound tt failed
 
 -- what a store's opening answers says of the keeper before and after
-pub record Opened (K : Type 0) (state : K → KeeperState) (k : KeeperState) (r : Result (StoredView K) (OpenFault K)) : Type 0 where
+pub record Opened (K : Type 0) (state : K → KeeperState) (k : KeeperState) (r : Result (StoredView K) (Unopened K)) : Type 0 where
   pub opens : IfSome k.entries (λ es. Opens {K = K} es r)
   pub entries : (state (opened_keeper r)).entries ≡ k.entries
   pub used : Keeps k (state (opened_keeper r)) (IsOpenFailed r) (λ _. ⊤)
 
-opened_as : (K : Type 0) (state : K → KeeperState) (k : KeeperState) (r x : Result (StoredView K) (OpenFault K)) → r ≡ x → Opened K state k r → Opened K state k x
-opened_as K state k r x is o = subst (λ (y : Result (StoredView K) (OpenFault K)). Opened K state k y) is o
+opened_as : (K : Type 0) (state : K → KeeperState) (k : KeeperState) (r x : Result (StoredView K) (Unopened K)) → r ≡ x → Opened K state k r → Opened K state k x
+opened_as K state k r x is o = subst (λ (y : Result (StoredView K) (Unopened K)). Opened K state k y) is o
 
 -- ---- what happens to the keeper
 
@@ -98,7 +100,7 @@ module _ (address : List ℕ) (sessions : ℕ) (p : ProfileView) where
       record { rest = loaded (rebuilds new_server) ∷ m.rest; answer = m.answer; kept = (tt, m.kept); whole = record { first = loaded (rebuilds new_server) ∷ []; rest = m.rest; between = rebuilds new_server; splits = refl; does = refl; goes = m.whole } }
 
   -- a keeper's entries were read, and the run goes on by what they say
-  module _ (K : Type 0) (state : K → KeeperState) (k : KeeperState) (r : Result (StoredView K) (OpenFault K)) (a : HostState) (opened : Opened K state k r) where
+  module _ (K : Type 0) (state : K → KeeperState) (k : KeeperState) (r : Result (StoredView K) (Unopened K)) (a : HostState) (opened : Opened K state k r) where
     pub opened_served : (store : StoredView K) (c : KeptState) (answer : Option KeptStatus) → r ≡ Ok store → DidKept (ServesAll address sessions store.server p) (beside a (state store.keeper)) c answer
         → DidKept (OpensAndServes address sessions p) (beside a k) c answer
     opened_served store c answer is g =
@@ -106,22 +108,33 @@ module _ (address : List ℕ) (sessions : ℕ) (p : ProfileView) where
         let l = state store.keeper in
         did_then (Calls loaded) (after_opening address sessions p) (beside a k) (beside a l) c (rebuilds store.server) answer (did_load k l ⊥ o.entries o.used a (rebuilds store.server) (λ never. never) (starts_at k.entries store o.opens)) g
 
-    pub bad_told : (keeper : K) (n : ℕ) (b : HostState) (answer : Option Status) (end : Option KeptStatus) → r ≡ Err (opening.BadEntry keeper n) → Did (Tells (bad_entry_line n) Refused) a b answer → end ≡ option_map (λ status. Run status) answer
+    bad_told : (keeper : K) (n : ℕ) (b : HostState) (answer : Option Status) (end : Option KeptStatus) → r ≡ Err (record { keeper = keeper; fault = opening.BadEntry n }) → Did (Tells (bad_entry_line n) Refused) a b answer → end ≡ option_map (λ status. Run status) answer
         → DidKept (OpensAndServes address sessions p) (beside a k) (beside b (state keeper)) end
     bad_told keeper n b answer end is g same =
-        let o = opened_as K state k r (Err (opening.BadEntry keeper n)) is opened in
+        let u : Unopened K = record { keeper = keeper; fault = opening.BadEntry n } in
+        let o = opened_as K state k r (Err u) is opened in
         let l = state keeper in
-        did_then (Calls loaded) (after_opening address sessions p) (beside a k) (beside a l) (beside b l) (unaccepted n) end (did_load k l ⊥ o.entries o.used a (unaccepted n) (λ never. never) (bad_at k.entries keeper n o.opens))
+        did_then (Calls loaded) (after_opening address sessions p) (beside a k) (beside a l) (beside b l) (unaccepted n) end (did_load k l (u.fault ≡ opening.Failed) o.entries o.used a (unaccepted n) (λ never. absurd never) (bad_at k.entries keeper n o.opens))
         (subst (λ (x : Option KeptStatus). DidKept (Last (Tells (bad_entry_line n) Refused)) (beside a l) (beside b l) x) (sym same) (last_done (Tells (bad_entry_line n) Refused) a b l answer g))
 
-    pub unread_told : (keeper : K) (b : HostState) (status : KeptStatus) → r ≡ Err (opening.Failed keeper) → Did (Tells keep_fault_line KeepFault) a b (Some status) → DidKept (OpensAndServes address sessions p) (beside a k) (beside b (state keeper)) (Some status)
-    unread_told keeper b status is g =
-        let o = opened_as K state k r (Err (opening.Failed keeper)) is opened in
+    unread_told : (keeper : K) (b : HostState) (end : Option KeptStatus) → r ≡ Err (record { keeper = keeper; fault = opening.Failed }) → Did (Tells keep_fault_line KeepFault) a b end → DidKept (OpensAndServes address sessions p) (beside a k) (beside b (state keeper)) end
+    unread_told keeper b end is g =
+        let u : Unopened K = record { keeper = keeper; fault = opening.Failed } in
+        let o = opened_as K state k r (Err u) is opened in
         let l = state keeper in
-        did_then (Calls loaded) (after_opening address sessions p) (beside a k) (beside a l) (beside b l) unread (Some status) (did_load k l (Unit {0}) o.entries o.used a unread (λ failed. failed) (unread_unsound k l (Unit {0}) o.entries o.used tt))
-        (did_host (Tells keep_fault_line KeepFault) a b l (Some status) g)
+        did_then (Calls loaded) (after_opening address sessions p) (beside a k) (beside a l) (beside b l) unread end (did_load k l (u.fault ≡ opening.Failed) o.entries o.used a unread (λ failed. refl) (unread_unsound k l (u.fault ≡ opening.Failed) o.entries o.used refl))
+        (did_host (Tells keep_fault_line KeepFault) a b l end g)
 
-    pub unopened : (keeper : K) → r ≡ Err (opening.Memory keeper) → DidKept (OpensAndServes address sessions p) (beside a k) (beside a (state keeper)) None
+    unopened : (keeper : K) → r ≡ Err (record { keeper = keeper; fault = opening.Memory }) → DidKept (OpensAndServes address sessions p) (beside a k) (beside a (state keeper)) None
     unopened keeper is =
-        let o = opened_as K state k r (Err (opening.Memory keeper)) is opened in
-        did_unasked k (state keeper) ⊥ o.entries o.used a (OpensAndServes address sessions p) can_open
+        let u : Unopened K = record { keeper = keeper; fault = opening.Memory } in
+        let o = opened_as K state k r (Err u) is opened in
+        did_unasked k (state keeper) (u.fault ≡ opening.Failed) o.entries o.used a (OpensAndServes address sessions p) can_open
+
+    -- why they weren't is told
+    pub unopened_told : (keeper : K) (f : OpenFault) (b : HostState) (end : Option KeptStatus) → r ≡ Err (record { keeper = keeper; fault = f }) → TellsUnopened f a b end → DidKept (OpensAndServes address sessions p) (beside a k) (beside b (state keeper)) end
+    unopened_told keeper (opening.BadEntry n) b end is t = bad_told keeper n b t.0 end is t.1 t.2
+    unopened_told keeper opening.Failed b end is t = unread_told keeper b end is t
+    unopened_told keeper opening.Memory b end is t =
+        subst (λ (x : Option KeptStatus). DidKept (OpensAndServes address sessions p) (beside a k) (beside b (state keeper)) x) (sym t.0)
+        (subst (λ (q : HostState). DidKept (OpensAndServes address sessions p) (beside a k) (beside q (state keeper)) None) (sym t.1) (unopened keeper is))

@@ -1,5 +1,5 @@
 -- What a server's session comes to over an outside whose links give bytes. This project's own.
-use Rattle.std.specs.Prelude.{◌≡◌, ◌≢◌, ℕ, List, [], ◌∷◌, ◌++◌, get_or, true, false, None}
+use Rattle.std.specs.Prelude.{◌≡◌, ℕ, List, [], ◌∷◌, ◌++◌, true, false}
 use Rattle.tl_base.specs.Outside.{left_of, written_of}
 use Rattle.tl_base.specs.declared.host.Out.TheVariants as outs
 use Rattle.tl_base.specs.declared.host.Slot.TheVariants as slots
@@ -7,21 +7,12 @@ use Rattle.box_events.specs.declared.requests.Numbered.{Numbered}
 use Rattle.box_server.specs.Servers.{ServerState}
 use Rattle.box_server.specs.declared.entry.Entry.{Entry}
 use Rattle.wire_profile.specs.Indexes.{ProfileView}
-use Rattle.outside.specs.Answer.{Answer}
-use Rattle.outside.specs.Kept.{Leaves}
-use Rattle.outside.specs.declared.status.Status.{Status}
-use Rattle.outside.specs.declared.status.Status.TheVariants.{LinkFault, WriteFault}
 use Rattle.outside.specs.Events.{Outside}
 use Rattle.outside.specs.Fits.{Fits}
-use Rattle.update_sessions.specs.Kept.{EndsSession, StoreEnd, ended, keeper_failed, kept_in}
-use Rattle.session_commands.specs.Linked.{next_link}
-use Rattle.session_commands.specs.Serve.{SessionEnd, IsAny, Sessions, Total, end_errors, end_output, end_status, first_fault, total_answer}
-use Rattle.session_commands.specs.Serve as commands
+use Rattle.update_sessions.specs.Kept.{KeeperBroke, kept_in}
+use Rattle.update_sessions.specs.Served.{Serves}
 use Rattle.serve_rooms.specs.Acts.{Act, hosted, loaded, added, events_in}
 use Rattle.serve_rooms.specs.Answering.{AnswersAll, Session, over, lost}
-use Rattle.serve_rooms.specs.Sessions.{ServesAll, ServesNext, more}
-use Rattle.serve_rooms.specs.declared.status.KeptStatus.TheVariants.{Run}
-use Rattle.serve_rooms.specs.declared.telling.Tally.{Tally}
 
 -- ---- one session
 
@@ -33,58 +24,19 @@ added_in (loaded by ∷ t) = added_in t
 added_in (added e true ∷ t) = e ∷ added_in t
 added_in (added e false ∷ t) = added_in t
 
--- how a session ended, as one of a store
-abbrev pub store_end : Session → StoreEnd ℕ
-store_end (over server end) = ended server end
-store_end lost = keeper_failed
+-- as a session of the server ends; or the keeper failed
+abbrev pub EndsAs : ProfileView → ServerState → List ℕ → List ℕ → List Numbered → Session → Type 0
+EndsAs p s bytes out cs (over t end) = Serves p s bytes out t end cs
+EndsAs p s bytes out cs lost = KeeperBroke p s bytes out cs
 
 -- A session of the server over what was left of the link: this was sent, these calls were taken, and their entries are those that were added.
 pub record SessionOver (p : ProfileView) (s : ServerState) (t : List Act) (r : Session) (x y : Outside) : Type 0 where
   pub sent : List ℕ
   pub calls : List Numbered
   pub wrote : written_of outs.Link y.view ≡ written_of outs.Link x.view ++ sent
-  pub ends : EndsSession p s (left_of slots.Link x.view) sent calls (store_end r)
+  pub ends : EndsAs p s (left_of slots.Link x.view) sent calls r
   pub entries : added_in t ≡ kept_in s calls
 
 -- What is answered until the link ends is such a session, however it ends.
 abbrev pub SessionsAnswer : Type 0
 SessionsAnswer = (p : ProfileView) (s : ServerState) (t : List Act) (r : Session) (x y : Outside) → AnswersAll p s t r → Fits (events_in t) x y → SessionOver p s t r x y
-
--- ---- one connection
-
--- what is answered by the session with this number, in which this was sent
-abbrev pub session_answer : ℕ → SessionEnd → List ℕ → Answer
-session_answer number e sent = record { status = end_status e; output = end_output number e; errors = end_errors e; state = None; taken = 1; links = sent ∷ []; moments = 1; address = None }
-
--- A session at the next moment over what the next link gives: what is left of the outside is its answer's, Output has grown by it, and so has Errors, where all lines
--- stand there whole.
-pub record ServedNext (p : ProfileView) (number : ℕ) (s t : ServerState) (tally later : Tally) (acts : List Act) (x y : Outside) : Type 0 where
-  pub sent : List ℕ
-  pub ends : SessionEnd
-  pub session : commands.Session p s (get_or x.view.moments 0 0) (next_link x.view) sent t (added_in acts) ends
-  pub status : later.status ≡ first_fault tally.status (end_status ends)
-  pub output : written_of outs.Output y.view ≡ written_of outs.Output x.view ++ end_output number ends
-  pub whole : later.whole ≡ true → tally.whole ≡ true
-  pub errors : later.whole ≡ true → written_of outs.Errors y.view ≡ written_of outs.Errors x.view ++ end_errors ends
-  pub leaves : Leaves (session_answer number ends sent) x.view y.view
-
--- after the next session others may come: then it is such a one, however it ends
-abbrev pub NextAnswers : Type 0
-NextAnswers = (p : ProfileView) (number : ℕ) (s t : ServerState) (tally later : Tally) (acts : List Act) (x y : Outside) → ServesNext p number s tally acts (more t later) → Fits (events_in acts) x y → ServedNext p number s t tally later acts x y
-
--- ---- all sessions
-
--- So many sessions from a server on, however each ends: the status is that of the first fault, Output has grown by what is told of them, what is left of the outside is
--- their answer's, and the entries of their posts are those that were added.
-pub record ServedAll (p : ProfileView) (address : List ℕ) (n : ℕ) (s : ServerState) (acts : List Act) (status : Status) (x y : Outside) : Type 0 where
-  pub total : Total
-  pub sessions : Sessions IsAny p s x.view.links x.view.moments n total
-  pub entries : added_in acts ≡ total.entries
-  pub status_is : status ≡ total.status
-  pub output : written_of outs.Output y.view ≡ written_of outs.Output x.view ++ total.output
-  pub leaves : Leaves (total_answer address n total) x.view y.view
-
--- A run that ended by no fault of Output, nor by one of a link before all were served, served all.
-abbrev pub AllAnswer : Type 0
-AllAnswer = (p : ProfileView) (address : List ℕ) (n : ℕ) (s : ServerState) (acts : List Act) (status : Status) (x y : Outside) → ServesAll address n s p acts (Run status) → Fits (events_in acts) x y
-    → status ≢ WriteFault → status ≢ LinkFault → ServedAll p address n s acts status x y

@@ -10,9 +10,9 @@ ghost use Rattle.wire_profile.specs.Profiles.{IsProfile};
 ghost use Rattle.serve_rooms.specs.Acts.{beside};
 ghost use Rattle.serve_rooms.specs.Answering.{AnswersAll, AnswersBytes, AnswersNext, after_packet};
 ghost use Rattle.serve_rooms.specs.Doing.{DidKept};
-ghost use Rattle.serve_rooms.specs.inner.Ends.{answered_by, keeper_of, outcome_at, end_at, session_by};
+ghost use Rattle.serve_rooms.specs.inner.Ends.{answered_by, outcome_at, end_at, session_by};
 
-use box_server::{Keeper, Stored};
+use box_server::{KeepFault, Keeper, Stored};
 use outside::{Host, Packet, take_packet, write_out};
 use std::alloc::Global;
 use tl_base::{Bytes, Failed, Out, PacketFault, Slot};
@@ -28,15 +28,6 @@ pub enum Outcome {
     Ended,
     /// The session fails. The fault is no `Memory`.
     Failed { fault: SessionFault },
-}
-
-/// Why a session stopped. The keeper alone is left.
-#[derive(Drop)]
-pub enum Stopped<K: Keeper> {
-    /// Memory ran out.
-    Memory { keeper: K },
-    /// A call to the keeper failed.
-    Lost { keeper: K },
 }
 
 // What becomes of what is no packet.
@@ -70,28 +61,23 @@ fn answer_bytes<H: Host, K: Keeper>(
     alloc: Global,
     host: &mut H,
     profile: &Profile,
-    store: Stored<K>,
+    store: &mut Stored<K>,
     packet: &[u8],
     out: &mut Bytes,
-) -> Result<(Stored<K>, Outcome), Stopped<K>>
+) -> Result<Outcome, KeepFault>
     requires sound { IsProfile profile.now }
-    ensures { DidKept (AnswersBytes profile.now store.server packet.now) (beside (H.state host.old) (K.state store.keeper)) (beside (H.state host.new) (K.state (keeper_of result))) (answered_by result) }
+    ensures { DidKept (AnswersBytes profile.now store.old.server packet.now) (beside (H.state host.old) (K.state store.old.keeper)) (beside (H.state host.new) (K.state store.new.keeper)) (answered_by store.new.server result) }
 {
     match answer_packet(alloc, profile, store, packet, out) {
-        Ok(store) => match send_frames(host, out) {
-            Ok(()) => Ok((store, Outcome::Answered)),
-            Err(_) => Ok((
-                store,
-                Outcome::Failed {
-                    fault: SessionFault::LinkFault,
-                },
-            )),
+        Ok(()) => match send_frames(host, out) {
+            Ok(()) => Ok(Outcome::Answered),
+            Err(_) => Ok(Outcome::Failed {
+                fault: SessionFault::LinkFault,
+            }),
         },
-        Err(StoreSession::Session { store, fault }) => Ok((store, Outcome::Failed { fault })),
-        Err(StoreSession::Memory { store }) => Err(Stopped::Memory {
-            keeper: store.into_keeper(),
-        }),
-        Err(StoreSession::Failed { keeper }) => Err(Stopped::Lost { keeper }),
+        Err(StoreSession::Session { fault }) => Ok(Outcome::Failed { fault }),
+        Err(StoreSession::Memory) => Err(KeepFault::Memory),
+        Err(StoreSession::Failed) => Err(KeepFault::Failed),
     }
 }
 
@@ -100,16 +86,16 @@ fn answer_taken<H: Host, K: Keeper>(
     alloc: Global,
     host: &mut H,
     profile: &Profile,
-    store: Stored<K>,
+    store: &mut Stored<K>,
     packet: Packet,
     out: &mut Bytes,
-) -> Result<(Stored<K>, Outcome), Stopped<K>>
+) -> Result<Outcome, KeepFault>
     requires sound { IsProfile profile.now }
-    ensures { DidKept (after_packet profile.now store.server (packet_view packet)) (beside (H.state host.old) (K.state store.keeper)) (beside (H.state host.new) (K.state (keeper_of result))) (answered_by result) }
+    ensures { DidKept (after_packet profile.now store.old.server (packet_view packet)) (beside (H.state host.old) (K.state store.old.keeper)) (beside (H.state host.new) (K.state store.new.keeper)) (answered_by store.new.server result) }
 {
     match packet {
         Packet::Whole(bytes) => answer_bytes(alloc, host, profile, store, &bytes, out),
-        other => Ok((store, no_packet(&other))),
+        other => Ok(no_packet(&other)),
     }
 }
 
@@ -118,17 +104,15 @@ fn answer_next<H: Host, K: Keeper>(
     alloc: Global,
     host: &mut H,
     profile: &Profile,
-    store: Stored<K>,
+    store: &mut Stored<K>,
     out: &mut Bytes,
-) -> Result<(Stored<K>, Outcome), Stopped<K>>
+) -> Result<Outcome, KeepFault>
     requires sound { IsProfile profile.now }
-    ensures { DidKept (AnswersNext profile.now store.server) (beside (H.state host.old) (K.state store.keeper)) (beside (H.state host.new) (K.state (keeper_of result))) (answered_by result) }
+    ensures { DidKept (AnswersNext profile.now store.old.server) (beside (H.state host.old) (K.state store.old.keeper)) (beside (H.state host.new) (K.state store.new.keeper)) (answered_by store.new.server result) }
 {
     match take_packet(alloc, host, Slot::Link) {
         Ok(packet) => answer_taken(alloc, host, profile, store, packet, out),
-        Err(_) => Err(Stopped::Memory {
-            keeper: store.into_keeper(),
-        }),
+        Err(_) => Err(KeepFault::Memory),
     }
 }
 
@@ -148,23 +132,21 @@ pub fn serve_link<H: Host, K: Keeper>(
     alloc: Global,
     host: &mut H,
     profile: &Profile,
-    store: Stored<K>,
-) -> Result<(Stored<K>, Result<u64, SessionFault>), Stopped<K>>
-    ensures { DidKept (AnswersAll profile.now store.server) (beside (H.state host.old) (K.state store.keeper)) (beside (H.state host.new) (K.state (keeper_of result))) (session_by result) }
+    store: &mut Stored<K>,
+) -> Result<Result<u64, SessionFault>, KeepFault>
+    ensures { DidKept (AnswersAll profile.now store.old.server) (beside (H.state host.old) (K.state store.old.keeper)) (beside (H.state host.new) (K.state store.new.keeper)) (session_by store.new.server result) }
 {
     // Read for the proof alone: that the profile is sound.
     let _schema = profile.schema();
-    let mut store = store;
     let mut out = Bytes::new(alloc);
     for calls in 0..MAX_FRAMES {
-        let (after, outcome) = match answer_next(alloc, host, profile, store, &mut out) {
-            Ok(next) => next,
-            Err(stopped) => return Err(stopped),
+        let outcome = match answer_next(alloc, host, profile, store, &mut out) {
+            Ok(outcome) => outcome,
+            Err(fault) => return Err(fault),
         };
-        store = after;
         if let Some(end) = end_by(outcome, calls) {
-            return Ok((store, end));
+            return Ok(end);
         }
     }
-    Ok((store, Err(SessionFault::TooManyFrames)))
+    Ok(Err(SessionFault::TooManyFrames))
 }

@@ -8,6 +8,7 @@ ghost use Rattle.session_commands.specs.Keep.{bad_entry_line};
 ghost use Rattle.tl_schema.specs.CheckedPrograms.{IsSchema};
 ghost use Rattle.serve_rooms.specs.Acts.{beside};
 ghost use Rattle.serve_rooms.specs.Doing.{DidKept, RanKept};
+ghost use Rattle.serve_rooms.specs.inner.Ends.{TellsUnopened};
 ghost use Rattle.serve_rooms.specs.Serve.{OfSchema, OpensAndServes, keeps};
 ghost use Rattle.serve_rooms.specs.declared.status.KeptStatus.TheVariants.{Run};
 
@@ -98,20 +99,35 @@ fn open_and_serve<H: Host, K: Keeper>(
 ) -> KeptRun<K>
     ensures { DidKept (OpensAndServes address.now sessions profile.now) (beside (H.state host.old) (K.state keeper)) (beside (H.state host.new) (K.state result.keeper)) (answered result.end) }
 {
-    match Stored::open(alloc, keeper) {
-        Ok(store) => serve_all(alloc, host, profile, address, sessions, store),
-        Err(OpenFault::BadEntry { keeper, n }) => KeptRun {
-            keeper,
-            end: as_kept(tell_entry(alloc, host, n)),
-        },
-        Err(OpenFault::Failed { keeper }) => KeptRun {
-            keeper,
-            end: Ok(tell(host, b"tlbox: keep fault\n", KeptStatus::KeepFault)),
-        },
-        Err(OpenFault::Memory { keeper }) => KeptRun {
-            keeper,
-            end: Err(AllocError),
-        },
+    let mut store = match Stored::open(alloc, keeper) {
+        Ok(store) => store,
+        Err(unopened) => {
+            let end = tell_unopened(alloc, host, unopened.fault);
+            return KeptRun {
+                keeper: unopened.keeper,
+                end,
+            };
+        }
+    };
+    let end = serve_all(alloc, host, profile, address, sessions, &mut store);
+    KeptRun {
+        keeper: store.into_keeper(),
+        end,
+    }
+}
+
+// Tells why the entries aren't read.
+fn tell_unopened<H: Host>(
+    alloc: Global,
+    host: &mut H,
+    fault: OpenFault,
+) -> Result<KeptStatus, AllocError>
+    ensures { TellsUnopened fault (H.state host.old) (H.state host.new) (answered result) }
+{
+    match fault {
+        OpenFault::BadEntry { n } => as_kept(tell_entry(alloc, host, n)),
+        OpenFault::Failed => Ok(tell(host, b"tlbox: keep fault\n", KeptStatus::KeepFault)),
+        OpenFault::Memory => Err(AllocError),
     }
 }
 

@@ -1,6 +1,6 @@
 //! Laws of what `serve` and `keep` do.
 ghost use Rattle.serve_rooms.specs.ServeLaws.{KeepHasCause, KeepReadsFirst, KeepTouches};
-ghost use Rattle.serve_rooms.specs.ServedBytes.{AllAnswer, NextAnswers, SessionsAnswer};
+ghost use Rattle.serve_rooms.specs.ServedBytes.{SessionsAnswer};
 
 /// A run of `keep` does with its host no more than one of `serve`.
 pub fn keep_touches()
@@ -21,15 +21,4 @@ pub fn keep_has_cause()
 /// calls were taken, and their entries are those that were added.
 pub fn sessions_answer()
     ensures { SessionsAnswer }
-{}
-
-/// So is the session over the next link, at the next moment, where others may come after it: what is left of the outside is its answer's, and so is what Output has
-/// grown by, and Errors, where all lines stand there whole.
-pub fn next_answers()
-    ensures { NextAnswers }
-{}
-
-/// And so are all sessions of a run, one after the other, that ended by no fault of Output, nor by one of a link before all were served.
-pub fn all_answer()
-    ensures { AllAnswer }
 {}

@@ -12,8 +12,6 @@ mod status;
 mod telling;
 
 pub use keep::{run_kept, serve_kept};
-pub use laws::{
-    all_answer, keep_has_cause, keep_reads_first, keep_touches, next_answers, sessions_answer,
-};
+pub use laws::{keep_has_cause, keep_reads_first, keep_touches, sessions_answer};
 pub use serve::{run_serve, serve_sessions};
 pub use status::{KeptRun, KeptStatus};

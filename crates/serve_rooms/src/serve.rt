@@ -76,8 +76,8 @@ fn serve_new<H: Host>(
 ) -> Result<Status, AllocError>
     ensures { DidIn to_serve (Spares (ServesAll address.now sessions new_server profile.now)) (H.state host.old) (H.state host.new) (answered result) }
 {
-    let store = Stored::over(Server::new(alloc));
-    spared(serve_all(alloc, host, profile, address, sessions, store).end)
+    let mut store = Stored::over(Server::new(alloc));
+    spared(serve_all(alloc, host, profile, address, sessions, &mut store))
 }
 
 // The end of a run whose keeper never failed, as that of one without a keeper.

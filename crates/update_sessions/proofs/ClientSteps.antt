@@ -3,7 +3,6 @@ use Rattle.std.proofs.Common.{◌≡◌, inr, ℕ, ◌<◌, ◌≤◌, List, [],
 use Rattle.std.specs.Prelude.{IfSome}
 use Rattle.std.specs.Io.KnownBytes.{Appends}
 use Rattle.tl_base.specs.Writing.{AppendsPrefix}
-use Rattle.box_events.specs.declared.difference_fault.WeaveFault.TheVariants as weaving
 use Rattle.box_events.specs.declared.replies.Frame.{Frame}
 use Rattle.box_events.specs.declared.replies.Frame.TheVariants.{Push, Reply}
 use Rattle.box_events.specs.declared.replies.Reply.{Reply as SomeReply}
@@ -11,10 +10,10 @@ use Rattle.box_client.specs.States.{ClientState}
 use Rattle.box_client.specs.Asking.{ticks, is_one_asking}
 use Rattle.box_client.specs.Calls.{Answers}
 use Rattle.box_client.specs.Laws.{next_after}
-use Rattle.box_client.specs.Replies.{Outcome, ignored, refuses, becomes, peer_error, wrong_kind, no_list, seq_back, replied}
-use Rattle.box_events.specs.Weaves.{overlaps, uneven}
+use Rattle.box_client.specs.Replies.{Outcome, ignored, refuses, becomes, replied}
 use Rattle.box_client.specs.declared.fault.ClientFault.{ClientFault}
-use Rattle.box_client.specs.declared.fault.ClientFault.TheVariants as client
+use Rattle.tl_base.specs.declared.fault.Fault.{Fault}
+use Rattle.tl_base.specs.declared.fault.Fault.TheVariants as fault
 use Rattle.box_client.proofs.GivenOnce.{pushed_next, replied_next}
 use Rattle.box_world.specs.Worlds.{after_reply}
 use Rattle.wire_profile.specs.Indexes.{ProfileView}
@@ -36,14 +35,9 @@ use Rattle.update_sessions.proofs.Stepping.{over_as, over_same, over_then, over_
 
 -- ---- a frame
 
-pub refused_reply : (c d : ClientState) (n : ℕ) (r : SomeReply) (fault : ClientFault) → Answers c (replied c n r) (Err fault) d → HearsFrame c (Reply n r) (Err fault) d
-refused_reply c d n r (client.PeerError code) h = (peer_error code, ap cause_in h.0, refl, h.1)
-refused_reply c d n r client.WrongKind h = (wrong_kind, ap cause_in h.0, refl, h.1)
-refused_reply c d n r (client.Weave (weaving.Overlap pts)) h = (no_list (overlaps pts), ap cause_in h.0, refl, h.1)
-refused_reply c d n r (client.Weave (weaving.Uneven a b k)) h = (no_list (uneven a b k), ap cause_in h.0, refl, h.1)
-refused_reply c d n r (client.Weave weaving.Memory) h = absurd h
-refused_reply c d n r (client.SeqBack at seq) h = (seq_back at seq, ap cause_in h.0, refl, h.1)
-refused_reply c d n r client.Memory h = h.1
+pub refused_reply : (c d : ClientState) (n : ℕ) (r : SomeReply) (e : Fault ClientFault) → Answers c (replied c n r) (Err e) d → HearsFrame c (Reply n r) (Err e) d
+refused_reply c d n r (fault.Refused cause) h = (ap cause_in h.0, h.1)
+refused_reply c d n r fault.Memory h = h.1
 
 -- the next number stays
 after_next : (c : ClientState) (o : Outcome) → next_after c o ≡ c.next → (after_reply c o).next ≡ c.next
@@ -78,21 +72,18 @@ module _ (p : ProfileView) where
   next_none c l0 w0 l1 w1 fault h w = over_same l0 w0 w1 (λ bytes out. HearsNone p c bytes out c fault) w (if_none c l0 l1 fault h)
 
   -- a frame was received, and is refused
-  refused_one : (c d : ClientState) (f : Frame) (fault : ClientFault) (bytes rest : List ℕ) → ComesFirst (MeansFrame p) f bytes rest → HearsFrame c f (Err fault) d → HearsNone p c bytes [] d (of_client fault)
-  refused_one c d f (client.PeerError code) bytes rest comes h = (f, (refl, h.3), record { rest = rest; comes = comes; cause = h.0; refuses = h.1; is = h.2 })
-  refused_one c d f client.WrongKind bytes rest comes h = (f, (refl, h.3), record { rest = rest; comes = comes; cause = h.0; refuses = h.1; is = h.2 })
-  refused_one c d f (client.Weave fault) bytes rest comes h = (f, (refl, h.3), record { rest = rest; comes = comes; cause = h.0; refuses = h.1; is = h.2 })
-  refused_one c d f (client.SeqBack at seq) bytes rest comes h = (f, (refl, h.3), record { rest = rest; comes = comes; cause = h.0; refuses = h.1; is = h.2 })
-  refused_one c d f client.Memory bytes rest comes h = ([], (omega arith, cut_none (client_side p) c d bytes h))
+  refused_one : (c d : ClientState) (f : Frame) (e : Fault ClientFault) (bytes rest : List ℕ) → ComesFirst (MeansFrame p) f bytes rest → HearsFrame c f (Err e) d → HearsNone p c bytes [] d (of_client e)
+  refused_one c d f (fault.Refused cause) bytes rest comes h = (f, (refl, h.1), record { rest = rest; comes = comes; refuses = h.0 })
+  refused_one c d f fault.Memory bytes rest comes h = ([], (omega arith, cut_none (client_side p) c d bytes h))
 
-  if_refused : (c d : ClientState) (f : Frame) (fault : ClientFault) (l0 l1 : Option (List ℕ)) → IfSome l0 (λ bytes. Receives (MeansFrame p) (WireRefused p frames) bytes l1 (Ok (Some f))) → HearsFrame c f (Err fault) d
-      → IfSome l0 (λ bytes. HearsNone p c bytes [] d (of_client fault))
-  if_refused c d f fault None l1 r h = tt
-  if_refused c d f fault (Some bytes) l1 r h = refused_one c d f fault bytes r.0 r.1 h
+  if_refused : (c d : ClientState) (f : Frame) (e : Fault ClientFault) (l0 l1 : Option (List ℕ)) → IfSome l0 (λ bytes. Receives (MeansFrame p) (WireRefused p frames) bytes l1 (Ok (Some f))) → HearsFrame c f (Err e) d
+      → IfSome l0 (λ bytes. HearsNone p c bytes [] d (of_client e))
+  if_refused c d f e None l1 r h = tt
+  if_refused c d f e (Some bytes) l1 r h = refused_one c d f e bytes r.0 r.1 h
 
-  pub next_refused : (c d : ClientState) (f : Frame) (fault : ClientFault) (l0 w0 l1 w1 : Option (List ℕ)) → IfSome l0 (λ bytes. Receives (MeansFrame p) (WireRefused p frames) bytes l1 (Ok (Some f))) → w0 ≡ w1 → HearsFrame c f (Err fault) d
-      → HearsNext p c l0 w0 l1 w1 d (Err (of_client fault))
-  next_refused c d f fault l0 w0 l1 w1 r w h = over_same l0 w0 w1 (λ bytes out. HearsNone p c bytes out d (of_client fault)) w (if_refused c d f fault l0 l1 r h)
+  pub next_refused : (c d : ClientState) (f : Frame) (e : Fault ClientFault) (l0 w0 l1 w1 : Option (List ℕ)) → IfSome l0 (λ bytes. Receives (MeansFrame p) (WireRefused p frames) bytes l1 (Ok (Some f))) → w0 ≡ w1 → HearsFrame c f (Err e) d
+      → HearsNext p c l0 w0 l1 w1 d (Err (of_client e))
+  next_refused c d f e l0 w0 l1 w1 r w h = over_same l0 w0 w1 (λ bytes out. HearsNone p c bytes out d (of_client e)) w (if_refused c d f e l0 l1 r h)
 
   -- a frame was received and taken, and then
   module _ (c d e : ClientState) (f : Frame) (out : List ℕ) (asking : is_one_asking c ≡ true) (heard : HearsFrame c f (Ok tt) d) (asks : e ≡ (ticks d).client) where

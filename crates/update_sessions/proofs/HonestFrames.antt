@@ -12,7 +12,8 @@ use Rattle.box_server.specs.Servers.{ServerState}
 use Rattle.box_server.proofs.Carrying.{changed_overlays}
 use Rattle.box_client.specs.States.{ClientState}
 use Rattle.box_client.specs.Asking.{ticks, wakes}
-use Rattle.box_client.specs.Replies.{Cause, Outcome, ignored, refuses, becomes, replied}
+use Rattle.box_client.specs.Replies.{Outcome, ignored, refuses, becomes, replied}
+use Rattle.box_client.specs.declared.fault.ClientFault.{ClientFault}
 use Rattle.box_world.specs.Agreeing.{Agrees}
 use Rattle.box_world.specs.Streams.{Past, past_of, begun, heard_frame, told_reply, AgreesThrough}
 use Rattle.box_world.specs.Recovering.{AnswersEach, most_frames}
@@ -44,12 +45,12 @@ module _ (p : ProfileView) where
   agrees_first past c [] h = h
   agrees_first past c (f ∷ fs) h = h.0
 
-  refusing : (o : Outcome) (cause : Cause) → cause_in o ≡ Some cause → o ≡ refuses cause
+  refusing : (o : Outcome) (cause : ClientFault) → cause_in o ≡ Some cause → o ≡ refuses cause
   refusing ignored cause e = absurd cc
   refusing (refuses other) cause e = let same : other ≡ cause = cc in ap refuses same
   refusing (becomes d) cause e = absurd cc
 
-  never_refused : (past : Past) (c : ClientState) (f : Frame) (cause : Cause) → AgreesThrough past c (told_all (f ∷ [])) → cause_of c f ≡ Some cause → ⊥
+  never_refused : (past : Past) (c : ClientState) (f : Frame) (cause : ClientFault) → AgreesThrough past c (told_all (f ∷ [])) → cause_of c f ≡ Some cause → ⊥
   never_refused past c (Push q) cause h e = cc
   never_refused past c (Reply n r) cause h e = h.1 cause (refusing (replied c n r) cause e)
 
@@ -63,7 +64,7 @@ module _ (p : ProfileView) where
   on_through past c d bytes out (Err (Packet f)) fs last h = record { ends = h.1.exchanged.ends; clear = λ a. tt }
   on_through past c d bytes out (Err (Wire f)) fs last h = record { ends = h.1.exchanged.ends; clear = λ a. tt }
   on_through past c d bytes out (Err (Client f)) fs last h =
-      record { ends = h.2.exchanged.ends; clear = λ a. never_refused past d h.1 h.3.cause (subst (λ (l : List Frame). AgreesThrough past d (told_all l)) h.4 a) h.3.refuses }
+      record { ends = h.2.exchanged.ends; clear = λ a. never_refused past d h.1 f (subst (λ (l : List Frame). AgreesThrough past d (told_all l)) h.4 a) h.3.refuses }
   on_through past c d bytes out (Err TooManyFrames) fs last h = record { ends = h.1.ends; clear = λ a. tt }
   on_through past c d bytes out (Err LinkFault) fs last h = record { ends = broken_ends (client_side p) c d bytes out fs h.0; clear = λ a. tt }
   on_through past c d bytes out (Err Memory) fs last h = record { ends = broken_ends (client_side p) c d bytes out fs h.0; clear = λ a. tt }

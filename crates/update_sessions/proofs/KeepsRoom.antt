@@ -23,20 +23,20 @@ some_kept None b more is h = absurd cc
 some_kept (Some es) b more is h = subst (λ (o : Option (List Entry)). IsSome o) (sym is) refl
 
 -- nothing was asked of a keeper
-pub keeps_still : (a : KeeperState) (P : List Entry → Type 0) → Keeps a a ⊥ P
-keeps_still a P = record { later = omega arith; cause = λ f. absurd f; room_kept = refl; stays = λ told sound. sound; never = never a.entries }
+pub keeps_still : (a : KeeperState) (F : Type 0) (P : List Entry → Type 0) → (F → ⊥) → Keeps a a F P
+keeps_still a F P none = record { later = omega arith; cause = λ f. absurd (none f); room_kept = refl; stays = λ told sound. sound; never = never a.entries }
   where
-    never : (o : Option (List Entry)) → IfSome o (λ es. IsTrue a.sound → P es → ⊥ → ⊥)
+    never : (o : Option (List Entry)) → IfSome o (λ es. IsTrue a.sound → P es → F → ⊥)
     never None = tt
-    never (Some es) = λ sound room f. f
+    never (Some es) = λ sound room f. none f
 
 -- likewise, of the values that the code has
 pub keeps_same : {K : Type 0} (state : K → KeeperState) (k j : K) (P : List Entry → Type 0) → j ≡ k → Keeps (state k) (state j) ⊥ P
-keeps_same {K} state k j P is = subst (λ (i : K). Keeps (state k) (state i) ⊥ P) (sym is) (keeps_still (state k) P)
+keeps_same {K} state k j P is = subst (λ (i : K). Keeps (state k) (state i) ⊥ P) (sym is) (keeps_still (state k) ⊥ P (λ f. f))
 
 -- a call that failed nowhere needs no room
-keeps_free : (a b : KeeperState) (P Q : List Entry → Type 0) → Keeps a b ⊥ P → Keeps a b ⊥ Q
-keeps_free a b P Q k = record { later = k.later; cause = k.cause; room_kept = k.room_kept; stays = k.stays; never = never a.entries }
+keeps_free : (a b : KeeperState) (F : Type 0) (P Q : List Entry → Type 0) → Keeps a b F P → Keeps a b ⊥ Q
+keeps_free a b F P Q k = record { later = k.later; cause = λ f. absurd f; room_kept = k.room_kept; stays = k.stays; never = never a.entries }
   where
     never : (o : Option (List Entry)) → IfSome o (λ es. IsTrue a.sound → Q es → ⊥ → ⊥)
     never None = tt
@@ -57,8 +57,8 @@ keeps_then a b c more F P Q is first last f =
     never None y is stays n = tt
     never (Some es) y is stays n = λ sound room failed. (subst (λ (o : Option (List Entry)). IfSome o (λ fs. IsTrue b.sound → Q fs → F → ⊥)) is n) (stays refl sound) (f es room) failed
 
-pub keeps_more : (a b c : KeeperState) (more : List Entry) (P : List Entry → Type 0) → b.entries ≡ with_more more a.entries → Keeps a b ⊥ (λ _. ⊤) → Keeps b c ⊥ P → Keeps a c ⊥ (λ _. ⊤)
-keeps_more a b c more P is first last = keeps_then a b c more ⊥ (λ _. ⊤) (λ _. ⊤) is first (keeps_free b c P (λ _. ⊤) last) (λ es v. v)
+pub keeps_more : (a b c : KeeperState) (more : List Entry) (F : Type 0) (P : List Entry → Type 0) → b.entries ≡ with_more more a.entries → Keeps a b ⊥ (λ _. ⊤) → Keeps b c F P → Keeps a c ⊥ (λ _. ⊤)
+keeps_more a b c more F P is first last = keeps_then a b c more ⊥ (λ _. ⊤) (λ _. ⊤) is first (keeps_free b c F P (λ _. ⊤) last) (λ es v. v)
 
 module _ (p : ProfileView) where
   -- a call came: there is room for what it adds

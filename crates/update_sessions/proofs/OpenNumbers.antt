@@ -15,7 +15,8 @@ use Rattle.box_events.specs.declared.updates.Push.{Push}
 use Rattle.box_events.specs.declared.updates.Push.TheVariants.{TooLong, Container}
 use Rattle.box_events.specs.declared.updates.Update.{Update}
 use Rattle.box_events.specs.declared.updates.Update.TheVariants.{Common, Secret, Channel, ChannelTooLong, Setting as SettingUpdate}
-use Rattle.box_events.specs.Weaves.{WeaveCause, woven_of}
+use Rattle.box_events.specs.Weaves.{woven_of}
+use Rattle.box_events.specs.declared.difference_fault.WeaveFault.{WeaveFault}
 use Rattle.pts_machine.specs.declared.mode.Mode.{Mode}
 use Rattle.pts_machine.specs.declared.mode.Mode.TheVariants.{Live, Asking, Again}
 use Rattle.pts_machine.specs.States.{LaneState}
@@ -24,7 +25,7 @@ use Rattle.pts_machine.proofs.Moves.{hear_mode}
 use Rattle.channel_box.specs.Looks.{any_asks, is_waiting}
 use Rattle.channel_box.specs.States.{ChannelState, first, has_id}
 use Rattle.channel_box.specs.Steps as channel
-use Rattle.channel_box.specs.Steps.{Answered, answered, answered_by, asks_number, at_first, channel_is_due, flagged, grown, heard_by, is_asking, is_due, taken_by, ticked, woken}
+use Rattle.channel_box.specs.Steps.{asks_number, at_first, channel_is_due, flagged, grown, heard_by, is_asking, is_due, taken_by, ticked, woken}
 use Rattle.box_client.specs.Asking as asking
 use Rattle.box_client.specs.Asking.{difference_of, group_is_due, group_ticked, is_one_asking, ticks}
 use Rattle.box_client.specs.Pushes.{all_updated, pack_heard, pushed, settings_in, updated}
@@ -63,12 +64,12 @@ same n = grind (arith, nat_tests)
 
 -- ---- who waits for nothing asks no number
 
-free_mode : (n : ℕ) (m : Mode) → is_waiting m ≡ false → one (is_asking n m) ≡ 0
+pub free_mode : (n : ℕ) (m : Mode) → is_waiting m ≡ false → one (is_asking n m) ≡ 0
 free_mode n Live e = refl
 free_mode n Again e = refl
 free_mode n (Asking k) e = absurd (let no : true ≡ false = e in cc)
 
-free_channels : (n : ℕ) (ds : List ChannelState) → any_asks ds ≡ false → asks_in n ds ≡ 0
+pub free_channels : (n : ℕ) (ds : List ChannelState) → any_asks ds ≡ false → asks_in n ds ≡ 0
 free_channels n [] e = refl
 free_channels n (d ∷ ds) e =
     let two = none_either (is_waiting d.lane.mode) (any_asks ds) e in
@@ -114,12 +115,12 @@ waits_number c e = waits_by c (is_waiting c.common.mode) refl e
 
 -- ---- a tick
 
-due_mode : (n : ℕ) (flag : Bool) (held : ℕ) (m : Mode) → is_due flag held m ≡ true → one (is_asking n m) ≡ 0
+pub due_mode : (n : ℕ) (flag : Bool) (held : ℕ) (m : Mode) → is_due flag held m ≡ true → one (is_asking n m) ≡ 0
 due_mode n flag held Live e = refl
 due_mode n flag held Again e = refl
 due_mode n flag held (Asking k) e = absurd (let no : false ≡ true = e in cc)
 
-ticked_by : (n m : ℕ) (d : ChannelState) (ds : List ChannelState) (b : Bool) → channel_is_due d ≡ b → ((k : ℕ) → asks_in n (ticked k ds).channels ≡ asks_in n ds + among n (ticked k ds).asks)
+pub ticked_by : (n m : ℕ) (d : ChannelState) (ds : List ChannelState) (b : Bool) → channel_is_due d ≡ b → ((k : ℕ) → asks_in n (ticked k ds).channels ≡ asks_in n ds + among n (ticked k ds).asks)
     → asks_in n (ticked m (d ∷ ds)).channels ≡ asks_in n (d ∷ ds) + among n (ticked m (d ∷ ds)).asks
 ticked_by n m d ds true e rest =
     let free = due_mode n d.flag (len d.lane.held) d.lane.mode e in
@@ -127,11 +128,11 @@ ticked_by n m d ds true e rest =
     rw e (omega (arith, free, more))
 ticked_by n m d ds false e rest = let more = rest m in rw e (omega (arith, more))
 
-ticked_counts : (n : ℕ) (ds : List ChannelState) (m : ℕ) → asks_in n (ticked m ds).channels ≡ asks_in n ds + among n (ticked m ds).asks
+pub ticked_counts : (n : ℕ) (ds : List ChannelState) (m : ℕ) → asks_in n (ticked m ds).channels ≡ asks_in n ds + among n (ticked m ds).asks
 ticked_counts n [] m = refl
 ticked_counts n (d ∷ ds) m = ticked_by n m d ds (channel_is_due d) refl (ticked_counts n ds)
 
-group_counts : (n : ℕ) (c : ClientState) (b : Bool) → group_is_due c ≡ b → asks_of n (group_ticked c).client ≡ asks_of n c + among n (group_ticked c).asks
+pub group_counts : (n : ℕ) (c : ClientState) (b : Bool) → group_is_due c ≡ b → asks_of n (group_ticked c).client ≡ asks_of n c + among n (group_ticked c).asks
 group_counts n c true e = let free = due_mode n c.flag (len c.common.held + len c.secret.held + len c.settings.held) c.common.mode e in rw e (omega (arith, free))
 group_counts n c false e = rw e (omega arith)
 
@@ -178,7 +179,7 @@ pushed_counts n c (Container us date seq_start seq) = pack_counts n (ltb 0 seq) 
 -- ---- an answer
 
 -- who asks m asks n where these are one
-asks_one : (n m : ℕ) (mode : Mode) → is_asking m mode ≡ true → is_asking n mode ≡ eqb m n
+pub asks_one : (n m : ℕ) (mode : Mode) → is_asking m mode ≡ true → is_asking n mode ≡ eqb m n
 asks_one n m mode e = ap (is_asking n) (is_asked m mode e)
 
 -- the first channel that asks m takes its answer
@@ -192,11 +193,11 @@ taken_counts : (m n : ℕ) (x y : ChannelState) (ds : List ChannelState) → one
 taken_counts m n x y [] free is = absurd (none-some x is)
 taken_counts m n x y (d ∷ ds) free is = first_counts m n x y d ds (asks_number m d) free refl is (λ at. taken_counts m n x y ds free at)
 
-none_by : (n : ℕ) (d : ChannelState) (ds : List ChannelState) (b : Bool) → asks_number n d ≡ b → cond b (Some d) (first (asks_number n) ds) ≡ None → (first (asks_number n) ds ≡ None → asks_in n ds ≡ 0) → one (is_asking n d.lane.mode) + asks_in n ds ≡ 0
+pub none_by : (n : ℕ) (d : ChannelState) (ds : List ChannelState) (b : Bool) → asks_number n d ≡ b → cond b (Some d) (first (asks_number n) ds) ≡ None → (first (asks_number n) ds ≡ None → asks_in n ds ≡ 0) → one (is_asking n d.lane.mode) + asks_in n ds ≡ 0
 none_by n d ds true e is rest = absurd cc
 none_by n d ds false e is rest = let here = ap one e in let more = rest is in omega (arith, here, more)
 
-none_counts : (n : ℕ) (ds : List ChannelState) → first (asks_number n) ds ≡ None → asks_in n ds ≡ 0
+pub none_counts : (n : ℕ) (ds : List ChannelState) → first (asks_number n) ds ≡ None → asks_in n ds ≡ 0
 none_counts n [] is = refl
 none_counts n (d ∷ ds) is = none_by n d ds (asks_number n d) refl is (none_counts n ds)
 
@@ -240,7 +241,7 @@ taken_frees : (n : ℕ) (back : Bool) (c : ClientState) (b : Received) (xs ys : 
 taken_frees n true c b xs ys = tt
 taken_frees n false c b xs ys = done_frees n b.last c b xs ys
 
-woven_frees : (n : ℕ) (c : ClientState) (b : Received) (o p : Result (List EventView) WeaveCause) → GroupFrees n c (group_woven c b o p)
+woven_frees : (n : ℕ) (c : ClientState) (b : Received) (o p : Result (List EventView) WeaveFault) → GroupFrees n c (group_woven c b o p)
 woven_frees n c b (Err cause) p = tt
 woven_frees n c b (Ok xs) (Err cause) = tt
 woven_frees n c b (Ok xs) (Ok ys) = taken_frees n (b.last && ltb b.state.seq c.settings.at) c b xs ys
@@ -275,11 +276,11 @@ unfolding restart_at
 restart_asks n t p = extend_asks n (record t { restart = p; events = []; at = p }) [] true
 
 -- the channel that takes an answer asks no number then
-abbrev ChannelFrees : ℕ → Result ChannelState WeaveCause → Type 0
+abbrev ChannelFrees : ℕ → Result ChannelState WeaveFault → Type 0
 ChannelFrees n (Ok d) = one (is_asking n d.lane.mode) ≡ 0
 ChannelFrees n (Err cause) = Unit {0}
 
-grown_frees : (n : ℕ) (d : ChannelState) (last : Bool) (o : Result (List EventView) WeaveCause) → ChannelFrees n (grown d last o)
+grown_frees : (n : ℕ) (d : ChannelState) (last : Bool) (o : Result (List EventView) WeaveFault) → ChannelFrees n (grown d last o)
 grown_frees n d last (Ok xs) = extend_asks n d.lane xs last
 grown_frees n d last (Err cause) = tt
 
@@ -289,7 +290,7 @@ channel_frees n d (part.Part pts news others last) = grown_frees n d last (woven
 channel_frees n d (part.TooLong pts recent last) = restart_asks n d.lane pts
 
 module _ (m n : ℕ) (c : ClientState) (free : is_asking m c.common.mode ≡ false) (other : one (is_asking m c.common.mode) ≡ 0) where
-  answer_drops : (d : ChannelState) → first (asks_number m) c.channels ≡ Some d → (o : Result ChannelState WeaveCause) → ChannelFrees n o → Drops m n c (by_channels c (taken_by c.channels m o))
+  answer_drops : (d : ChannelState) → first (asks_number m) c.channels ≡ Some d → (o : Result ChannelState WeaveFault) → ChannelFrees n o → Drops m n c (by_channels c (taken_by c.channels m o))
   answer_drops d f (Ok e) h = let took = taken_counts m n d e c.channels h f in omega (arith, took)
   answer_drops d f (Err cause) h = tt
 

@@ -76,10 +76,9 @@ packet_failed (packets.Ended had) e = absurd cc
 packet_failed packets.ReadFault e = refl
 packet_failed packets.Memory e = absurd cc
 
-pub packet_link_failed : {A B : Type 0} (r : Result A PacketFault) (q : Result B SessionFault) (x : PacketFault) (y : SessionFault) → r ≡ Err x → y ≡ of_packet x → q ≡ Err y → q ≡ Err LinkFault → r ≡ Err packets.ReadFault
-packet_link_failed {A} {B} r q x y is of told failed =
-    let same : y ≡ LinkFault = cc in
-    let fault : x ≡ packets.ReadFault = packet_failed x (sym of ∙ same) in
+pub packet_link_failed : {A : Type 0} (r : Result A PacketFault) (x : PacketFault) (y : SessionFault) → r ≡ Err x → y ≡ of_packet x → y ≡ LinkFault → r ≡ Err packets.ReadFault
+packet_link_failed {A} r x y is of failed =
+    let fault : x ≡ packets.ReadFault = packet_failed x (sym of ∙ failed) in
     cc
 
 -- a frame that was read is one that a client takes

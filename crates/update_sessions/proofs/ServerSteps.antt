@@ -14,8 +14,10 @@ use Rattle.box_wire.specs.Kinds.{calls}
 use Rattle.update_sessions.specs.declared.fault.SessionFault.{SessionFault}
 use Rattle.update_sessions.specs.declared.fault.SessionFault.TheVariants.{Packet, Wire, Client, TooManyFrames, LinkFault, Memory}
 use Rattle.update_sessions.specs.declared.fault.TheConstants.{MAX_FRAMES}
+use Rattle.update_sessions.specs.declared.storing.StoreSession.{StoreSession}
+use Rattle.update_sessions.specs.declared.storing.StoreSession.TheVariants.{Session}
 use Rattle.update_sessions.specs.Exchanges.{Exchanged, MaySend, after_all}
-use Rattle.update_sessions.specs.Kept.{ended, keeper_failed, KeeperBroke, Stores, kept_for, kept_in}
+use Rattle.update_sessions.specs.Kept.{EndsSession, StoreEnd, Stores, end_of, ended, keeper_failed, kept_for, kept_in}
 use Rattle.update_sessions.specs.Links.{LinkNeverFails, OverLink}
 use Rattle.update_sessions.specs.Packed.{MeansCall, SpellsFrame, Packed}
 use Rattle.update_sessions.specs.Receiving.{Receives}
@@ -97,8 +99,8 @@ module _ (p : ProfileView) where
   -- a call was received, and then
   module _ (s : ServerState) (call : Numbered) (l0 w0 l1 w1 : Option (List ℕ)) (r : IfSome l0 (λ bytes. Receives (MeansCall p) (WireRefused p calls) bytes l1 (Ok (Some call)))) (w : w0 ≡ w1) (e0 e1 : Option (List Entry)) where
     -- the keeper failed
-    pub next_failed : kept_for s call.request ≢ [] → e1 ≡ e0 → StoresNext p s l0 w0 l1 w1 e0 e1 keeper_failed
-    next_failed new same = record { calls = []; link = (refl, over_same l0 w0 w1 (λ bytes out. KeeperFails p s bytes out) w (if_failed l0 r)); appended = kept_still s e0 e1 same }
+    pub next_failed : (t : ServerState) → kept_for s call.request ≢ [] → t ≡ s → e1 ≡ e0 → StoresNext p s l0 w0 l1 w1 e0 e1 (keeper_failed t)
+    next_failed t new is same = record { calls = []; link = (refl, is, over_same l0 w0 w1 (λ bytes out. KeeperFails p s bytes out) w (if_failed l0 r)); appended = kept_still s e0 e1 same }
       where
         if_failed : (l : Option (List ℕ)) → IfSome l (λ bytes. Receives (MeansCall p) (WireRefused p calls) bytes l1 (Ok (Some call))) → IfSome l (λ bytes. KeeperFails p s bytes [])
         if_failed None h = tt
@@ -166,10 +168,10 @@ module _ (p : ProfileView) where
           subst (λ (cs : List Numbered). Serves p s bytes (x ++ y) t (Ok n) cs) (sym (none_more ds none))
           (subst (λ (l : List ℕ). Exchanged (server_side p) s bytes l (x ++ y) t so.calls) h.1 (exchanged_still (server_side p) s u t bytes mid x y so.calls ex h.0.0 h.0.1), sym so.count, lt)
 
-      broke : (ds : List Numbered) → ds ≡ [] → KeeperFails p u mid y → KeeperBroke p s bytes (x ++ y) (so.calls ++ ds)
-      broke ds none h =
-          subst (λ (cs : List Numbered). KeeperBroke p s bytes (x ++ y) cs) (sym (none_more ds none))
-          (record { between = u; left = mid; exchanged = exchanged_still (server_side p) s u u bytes mid x y so.calls ex h.wrote refl; few = few; last = h.last; rest = h.rest; comes = h.comes; new = h.new })
+      broke : (t : ServerState) (ds : List Numbered) → ds ≡ [] → t ≡ u → KeeperFails p u mid y → EndsSession p s bytes (x ++ y) (so.calls ++ ds) (keeper_failed t)
+      broke t ds none is h =
+          subst (λ (cs : List Numbered). EndsSession p s bytes (x ++ y) cs (keeper_failed t)) (sym (none_more ds none))
+          (record { between = u; left = mid; exchanged = exchanged_still (server_side p) s u u bytes mid x y so.calls ex h.wrote refl; few = few; last = h.last; rest = h.rest; comes = h.comes; new = h.new }, is)
 
     module _ (lt : n < MAX_FRAMES) (l2 w2 : Option (List ℕ)) (e2 : Option (List Entry)) where
       pub stores_stopped : (t : ServerState) (fault : SessionFault) → StoresNext p u l1 w1 l2 w2 e1 e2 (ended t (Err fault)) → Stores p s l0 w0 w2 e0 e2 (ended t (Err fault))
@@ -190,12 +192,12 @@ module _ (p : ProfileView) where
             appended = appended_then s u so.calls step.calls e0 e1 e2 so.server so.appended step.appended;
           }
 
-      pub stores_failed : StoresNext p u l1 w1 l2 w2 e1 e2 keeper_failed → Stores p s l0 w0 w2 e0 e2 keeper_failed
-      stores_failed step =
+      pub stores_failed : (t : ServerState) → StoresNext p u l1 w1 l2 w2 e1 e2 (keeper_failed t) → Stores p s l0 w0 w2 e0 e2 (keeper_failed t)
+      stores_failed t step =
           record {
             calls = so.calls ++ step.calls;
-            link = over_then (server_side p) s u so.calls l0 w0 l1 w1 w2 (λ bytes out. KeeperFails p u bytes out) (λ bytes out. KeeperBroke p s bytes out (so.calls ++ step.calls)) so.link step.link.1
-                (λ bytes mid x y ex h. broke lt bytes mid x y ex step.calls step.link.0 h);
+            link = over_then (server_side p) s u so.calls l0 w0 l1 w1 w2 (λ bytes out. KeeperFails p u bytes out) (λ bytes out. EndsSession p s bytes out (so.calls ++ step.calls) (keeper_failed t)) so.link step.link.2
+                (λ bytes mid x y ex h. broke lt bytes mid x y ex t step.calls step.link.0 step.link.1 h);
             appended = appended_then s u so.calls step.calls e0 e1 e2 so.server so.appended step.appended;
           }
 
@@ -207,6 +209,14 @@ module _ (p : ProfileView) where
           appended = so.appended;
         }
 
+-- a session of a store ended by this
+pub ended_by : (G : StoreEnd ℕ → Type 0) (t : ServerState) (r : Result ℕ StoreSession) (y z : StoreSession) → r ≡ Err y → y ≡ z → G (end_of t r) → G (end_of t (Err z))
+ended_by G t r y z is same h = subst (λ (x : StoreSession). G (end_of {T = ℕ} t (Err x))) same (subst (λ (x : Result ℕ StoreSession). G (end_of t x)) is h)
+
+pub link_failed : (r : Result ℕ StoreSession) (y : StoreSession) (f : SessionFault) → r ≡ Err y → y ≡ Session f → f ≡ LinkFault → r ≡ Err (Session LinkFault)
+link_failed r y f is same e = is ∙ ap (λ (z : StoreSession). Err z) (same ∙ ap (λ (g : SessionFault). Session g) e)
+
+module _ (p : ProfileView) where
   -- what a session of a store does is one of its server
   pub served_of : (s u t v : ServerState) (now : ℕ) (l0 w0 w1 : Option (List ℕ)) (e0 e1 : Option (List Entry)) (r : Result ℕ SessionFault) → u ≡ s → v ≡ t → Stores p (dated_at u now) l0 w0 w1 e0 e1 (ended t r)
       → OverLink l0 w0 w1 (λ bytes out. (cs : List Numbered) × Serves p (dated_at s now) bytes out v r cs)

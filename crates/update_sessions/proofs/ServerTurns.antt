@@ -1,5 +1,5 @@
 -- What a server makes of one packet.
-use Rattle.std.proofs.Common.{◌≡◌, ℕ, ◌≤◌, List, ◌++◌, length, Option, refl, sym, subst}
+use Rattle.std.proofs.Common.{◌≡◌, ℕ, ◌≤◌, List, ◌++◌, length, Option, Ok, Err, refl, subst}
 use Rattle.box_events.specs.declared.replies.Frame.{Frame}
 use Rattle.box_events.specs.declared.requests.Numbered.{Numbered}
 use Rattle.box_server.specs.Servers.{ServerState}
@@ -14,19 +14,19 @@ use Rattle.update_sessions.specs.declared.answering.CallAnswer.{CallAnswer}
 use Rattle.update_sessions.specs.declared.fault.SessionFault.TheVariants.{Wire}
 use Rattle.update_sessions.specs.Kept.{kept_for}
 use Rattle.update_sessions.specs.Packed.{MeansCall, Packed, SpellsFrame}
-use Rattle.update_sessions.specs.StoreEnds.{answered, refused}
+use Rattle.update_sessions.specs.declared.storing.StoreSession.TheVariants.{Session}
 use Rattle.update_sessions.specs.Turns.{AnswersPacket}
 use Rattle.update_sessions.specs.inner.StoreSteps.{Took, frames_in}
 
 module _ (p : ProfileView) (s : ServerState) (bytes out : List ℕ) (e0 e1 : Option (List Entry)) where
   -- the bytes are no call
-  pub turn_unread : (cause : WireFault) → WireRefused p calls bytes cause → e1 ≡ e0 → AnswersPacket p s bytes out e0 e1 (refused s (Wire cause))
+  pub turn_unread : (cause : WireFault) → WireRefused p calls bytes cause → e1 ≡ e0 → AnswersPacket p s bytes out e0 e1 s (Err (Session (Wire cause)))
   turn_unread cause r same = (r, refl, same)
 
   -- a call is taken, and then
   module _ (call : Numbered) (means : MeansCall p call bytes) (t : ServerState) (x : CallAnswer) (took : Took s call.number call.request e0 e1 t x) where
     -- all that is sent for it is there
-    pub turn_answered : Packed (SpellsFrame p) (frames_in x) out → AnswersPacket p s bytes out e0 e1 (answered t)
+    pub turn_answered : Packed (SpellsFrame p) (frames_in x) out → AnswersPacket p s bytes out e0 e1 t (Ok tt)
     turn_answered packed = (
       record { message = call; means = means; taken = tt; sent = subst (λ (fs : List Frame). Packed (SpellsFrame p) fs out) took.sends.frames packed; ends = took.server },
       took.appended,
@@ -37,7 +37,3 @@ pub turn_keeps : (p : ProfileView) (s : ServerState) (bytes : List ℕ) (a b : K
     → Keeps a b G (λ es. (m : Numbered) → MeansCall p m bytes → length (es ++ kept_for s m.request) ≤ a.room)
 turn_keeps p s bytes a b F G call means f k =
     keeps_as a b F G (λ es. length (es ++ kept_for s call.request) ≤ a.room) (λ es. (m : Numbered) → MeansCall p m bytes → length (es ++ kept_for s m.request) ≤ a.room) (λ es fits. fits call means) f k
-
--- likewise, of the keeper that the code has
-pub turn_keeps_same : {K : Type 0} (state : K → KeeperState) (j k : K) (a : KeeperState) (F : Type 0) (P : List Entry → Type 0) → j ≡ k → Keeps a (state k) F P → Keeps a (state j) F P
-turn_keeps_same {K} state j k a F P is h = subst (λ (i : K). Keeps a (state i) F P) (sym is) h

@@ -4,7 +4,6 @@ use Rattle.box_events.specs.declared.replies.Frame.{Frame}
 use Rattle.box_client.specs.States.{ClientState}
 use Rattle.box_client.specs.Asking.{ticks, is_one_asking}
 use Rattle.box_client.specs.declared.fault.ClientFault.{ClientFault}
-use Rattle.box_client.specs.declared.fault.ClientFault.TheVariants as client
 use Rattle.wire_profile.specs.declared.wire_fault.WireFault.{WireFault}
 use Rattle.wire_profile.specs.Indexes.{ProfileView}
 use Rattle.box_wire.specs.Answers.{HasCause}
@@ -25,12 +24,9 @@ module _ (p : ProfileView) (c : ClientState) (bytes out : List ℕ) where
 
   module _ (f : Frame) (means : MeansFrame p f bytes) where
     -- the frame is refused
-    pub turn_refused : (d : ClientState) (fault : ClientFault) → HearsFrame c f (Err fault) d → HearsPacket p c bytes out d (Err (of_client fault))
-    turn_refused d (client.PeerError code) h = (record { frame = f; means = means; cause = h.0; refuses = h.1; is = h.2 }, h.3)
-    turn_refused d client.WrongKind h = (record { frame = f; means = means; cause = h.0; refuses = h.1; is = h.2 }, h.3)
-    turn_refused d (client.Weave fault) h = (record { frame = f; means = means; cause = h.0; refuses = h.1; is = h.2 }, h.3)
-    turn_refused d (client.SeqBack at seq) h = (record { frame = f; means = means; cause = h.0; refuses = h.1; is = h.2 }, h.3)
-    turn_refused d client.Memory h = tt
+    pub turn_refused : (d : ClientState) (e : Fault ClientFault) → HearsFrame c f (Err e) d → HearsPacket p c bytes out d (Err (of_client e))
+    turn_refused d (fault.Refused cause) h = (record { frame = f; means = means; refuses = h.0 }, h.1)
+    turn_refused d fault.Memory h = tt
 
     -- it is taken, and what is due then is asked
     pub turned : (d e : ClientState) → is_one_asking c ≡ true → HearsFrame c f (Ok tt) d → e ≡ (ticks d).client → Packed (SpellsCall p) (ticks d).asks out → HearsPacket p c bytes out e (Ok tt)

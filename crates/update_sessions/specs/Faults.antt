@@ -5,7 +5,6 @@ use Rattle.wire_profile.specs.declared.wire_fault.WireFault.{WireFault}
 use Rattle.tl_base.specs.declared.fault.Fault.{Fault}
 use Rattle.tl_base.specs.declared.fault.Fault.TheVariants as fault
 use Rattle.box_client.specs.declared.fault.ClientFault.{ClientFault}
-use Rattle.box_client.specs.declared.fault.ClientFault.TheVariants as client
 use Rattle.update_sessions.specs.declared.fault.SessionFault.{SessionFault}
 use Rattle.update_sessions.specs.declared.fault.SessionFault.TheVariants.{Packet, Wire, Client, LinkFault, Memory}
 
@@ -22,6 +21,6 @@ of_wire (fault.Refused cause) = Wire cause
 of_wire fault.Memory = Memory
 
 -- an answer is refused
-abbrev pub of_client : ClientFault → SessionFault
-of_client client.Memory = Memory
-of_client fault = Client fault
+abbrev pub of_client : Fault ClientFault → SessionFault
+of_client (fault.Refused cause) = Client cause
+of_client fault.Memory = Memory

@@ -5,7 +5,6 @@ use Rattle.tl_base.specs.declared.packet.PacketFault.TheVariants.{Ended}
 use Rattle.box_events.specs.declared.replies.Frame.{Frame}
 use Rattle.box_client.specs.States.{ClientState}
 use Rattle.box_client.specs.Asking.{ticks, wakes, is_one_asking}
-use Rattle.box_client.specs.Replies.{Cause}
 use Rattle.box_client.specs.declared.fault.ClientFault.{ClientFault}
 use Rattle.box_world.specs.Streams.{begun}
 use Rattle.wire_profile.specs.Indexes.{ProfileView}
@@ -17,7 +16,7 @@ use Rattle.update_sessions.specs.declared.fault.TheConstants.{MAX_FRAMES}
 use Rattle.update_sessions.specs.Packed.{Packed, PartlyPacked, NoPacket, MeansFrame, SpellsCall}
 use Rattle.update_sessions.specs.Exchanges.{Exchanged, Broken, MaySend}
 use Rattle.update_sessions.specs.Receiving.{RefusedPacket, ComesFirst}
-use Rattle.update_sessions.specs.Hearing.{cause_of, IsFaultOf, client_side}
+use Rattle.update_sessions.specs.Hearing.{cause_of, client_side}
 
 -- the bytes begin with no packet, or have ended
 abbrev pub NoFrame : List ℕ → PacketFault → Type 0
@@ -27,9 +26,7 @@ NoFrame bytes fault = ((bytes ≡ []) × (fault ≡ Ended 0)) ⊎ NoPacket bytes
 pub record RefusedFrame (p : ProfileView) (c : ClientState) (bytes : List ℕ) (f : Frame) (fault : ClientFault) : Type 0 where
   pub rest : List ℕ
   pub comes : ComesFirst (MeansFrame p) f bytes rest
-  pub cause : Cause
-  pub refuses : cause_of c f ≡ Some cause
-  pub is : IsFaultOf cause fault
+  pub refuses : cause_of c f ≡ Some fault
 
 -- these frames were taken, the client still asks, and this is left
 pub record StillAsks (p : ProfileView) (c : ClientState) (bytes left out : List ℕ) (d : ClientState) (fs : List Frame) : Type 0 where

@@ -1,17 +1,14 @@
 -- What a client does in a session: all is asked about, and then each frame is heard and what is due is asked, until it asks no more.
 -- This project's own.
 use Rattle.std.specs.Prelude.{◌≡◌, true, Option, Some, None}
-use Rattle.box_events.specs.declared.difference_fault.WeaveFault.TheVariants as weaving
-use Rattle.box_events.specs.Weaves.{overlaps, uneven}
 use Rattle.box_events.specs.declared.requests.Numbered.{Numbered}
 use Rattle.box_events.specs.declared.replies.Frame.{Frame}
 use Rattle.box_events.specs.declared.replies.Frame.TheVariants.{Push, Reply}
 use Rattle.box_client.specs.States.{ClientState}
 use Rattle.box_client.specs.Pushes.{pushed}
-use Rattle.box_client.specs.Replies.{Cause, peer_error, wrong_kind, no_list, seq_back, Outcome, ignored, refuses, becomes, replied}
+use Rattle.box_client.specs.Replies.{Outcome, ignored, refuses, becomes, replied}
 use Rattle.box_client.specs.Asking.{ticks, is_one_asking}
 use Rattle.box_client.specs.declared.fault.ClientFault.{ClientFault}
-use Rattle.box_client.specs.declared.fault.ClientFault.TheVariants as client
 use Rattle.box_world.specs.Worlds.{after_reply}
 use Rattle.wire_profile.specs.Indexes.{ProfileView}
 use Rattle.update_sessions.specs.Packed.{MeansFrame, SpellsCall}
@@ -23,22 +20,14 @@ hears c (Push p) = pushed c p
 hears c (Reply n r) = after_reply c (replied c n r)
 
 -- why a client refuses a frame
-abbrev pub cause_in : Outcome → Option Cause
+abbrev pub cause_in : Outcome → Option ClientFault
 cause_in ignored = None
 cause_in (refuses cause) = Some cause
 cause_in (becomes d) = None
 
-abbrev pub cause_of : ClientState → Frame → Option Cause
+abbrev pub cause_of : ClientState → Frame → Option ClientFault
 cause_of c (Push p) = None
 cause_of c (Reply n r) = cause_in (replied c n r)
-
--- the client's fault is this cause
-abbrev pub IsFaultOf : Cause → ClientFault → Type 0
-IsFaultOf (peer_error code) fault = fault ≡ client.PeerError code
-IsFaultOf wrong_kind fault = fault ≡ client.WrongKind
-IsFaultOf (no_list (overlaps pts)) fault = fault ≡ client.Weave (weaving.Overlap pts)
-IsFaultOf (no_list (uneven a b c)) fault = fault ≡ client.Weave (weaving.Uneven a b c)
-IsFaultOf (seq_back at seq) fault = fault ≡ client.SeqBack at seq
 
 -- a frame is taken while an answer is waited for, where it isn't refused
 pub record IsTaken (c : ClientState) (f : Frame) : Type 0 where

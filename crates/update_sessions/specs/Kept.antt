@@ -1,5 +1,5 @@
 -- A session of a server whose posts are kept: what its calls add to the entries, and how it ends. This project's own.
-use Rattle.std.specs.Prelude.{◌≡◌, ◌≢◌, ℕ, ◌<◌, ◌≤◌, List, [], ◌∷◌, ◌++◌, length, Option, Some, None, Result}
+use Rattle.std.specs.Prelude.{◌≡◌, ◌≢◌, ℕ, ◌<◌, ◌≤◌, List, [], ◌∷◌, ◌++◌, length, Option, Some, None, Result, Ok, Err}
 use Rattle.box_events.specs.declared.requests.Numbered.{Numbered}
 use Rattle.box_events.specs.declared.requests.Request.{Request}
 use Rattle.box_events.specs.declared.requests.Request.TheVariants as request
@@ -9,7 +9,10 @@ use Rattle.box_server.specs.Keeping.{with_more}
 use Rattle.box_server.specs.Rebuilding.{kept_of}
 use Rattle.wire_profile.specs.Indexes.{ProfileView}
 use Rattle.update_sessions.specs.declared.fault.SessionFault.{SessionFault}
+use Rattle.update_sessions.specs.declared.fault.SessionFault.TheVariants as fault
 use Rattle.update_sessions.specs.declared.fault.TheConstants.{MAX_FRAMES}
+use Rattle.update_sessions.specs.declared.storing.StoreSession.{StoreSession}
+use Rattle.update_sessions.specs.declared.storing.StoreSession.TheVariants.{Session, Memory, Failed}
 use Rattle.update_sessions.specs.Exchanges.{Exchanged}
 use Rattle.update_sessions.specs.Links.{OverLink}
 use Rattle.update_sessions.specs.Packed.{Came, MeansCall}
@@ -29,10 +32,16 @@ abbrev pub kept_in : ServerState → List Numbered → List Entry
 kept_in s [] = []
 kept_in s (c ∷ cs) = kept_for s c.request ++ kept_in (after_request s c.request) cs
 
--- with this server it came to that; or the keeper failed
+-- with this server it came to that, or the keeper failed
 pub data StoreEnd (T : Type 0) : Type 0 where
   ended : ServerState → Result T SessionFault → StoreEnd T
-  keeper_failed : StoreEnd T
+  keeper_failed : ServerState → StoreEnd T
+
+abbrev pub end_of : {T : Type 0} → ServerState → Result T StoreSession → StoreEnd T
+end_of t (Ok x) = ended t (Ok x)
+end_of t (Err (Session f)) = ended t (Err f)
+end_of t (Err Memory) = ended t (Err fault.Memory)
+end_of t (Err Failed) = keeper_failed t
 
 -- The keeper failed at the call after these, a post that would be kept. All that is sent for these was written, and nothing else.
 pub record KeeperBroke (p : ProfileView) (s : ServerState) (bytes out : List ℕ) (cs : List Numbered) : Type 0 where
@@ -45,10 +54,10 @@ pub record KeeperBroke (p : ProfileView) (s : ServerState) (bytes out : List ℕ
   pub comes : ComesFirst (MeansCall p) last left rest
   pub new : kept_for between last.request ≢ []
 
--- as a session of the server ends
+-- as a session of the server ends; where the keeper failed, the server is as after these
 abbrev pub EndsSession : ProfileView → ServerState → List ℕ → List ℕ → List Numbered → StoreEnd ℕ → Type 0
 EndsSession p s bytes out cs (ended t result) = Serves p s bytes out t result cs
-EndsSession p s bytes out cs keeper_failed = KeeperBroke p s bytes out cs
+EndsSession p s bytes out cs (keeper_failed t) = (broke : KeeperBroke p s bytes out cs) × (t ≡ broke.between)
 
 -- What a session of a store does whose server's date was set: where the link tells its bytes, it is that of the server over them, and where the
 -- keeper tells its entries, they have what the calls add.

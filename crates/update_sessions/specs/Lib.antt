@@ -6,7 +6,6 @@ pub mod Receiving
 pub mod Serving
 pub mod Served
 pub mod Kept
-pub mod StoreEnds
 pub mod Hearing
 pub mod Turns
 pub mod Heard

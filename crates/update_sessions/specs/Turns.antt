@@ -6,19 +6,19 @@ use Rattle.box_server.specs.Servers.{ServerState}
 use Rattle.box_server.specs.declared.entry.Entry.{Entry}
 use Rattle.box_server.specs.Keeping.{with_more}
 use Rattle.box_client.specs.States.{ClientState}
-use Rattle.box_client.specs.Replies.{Cause}
 use Rattle.box_client.specs.declared.fault.ClientFault.{ClientFault}
 use Rattle.wire_profile.specs.Indexes.{ProfileView}
 use Rattle.box_wire.specs.Kinds.{calls, frames}
 use Rattle.box_wire.specs.Framing.{WireRefused}
 use Rattle.update_sessions.specs.declared.fault.SessionFault.{SessionFault}
 use Rattle.update_sessions.specs.declared.fault.SessionFault.TheVariants.{Packet, Wire, Client, TooManyFrames, LinkFault, Memory}
+use Rattle.update_sessions.specs.declared.storing.StoreSession.{StoreSession}
+use Rattle.update_sessions.specs.declared.storing.StoreSession.TheVariants as store
 use Rattle.update_sessions.specs.Packed.{Packed, MeansCall, MeansFrame}
 use Rattle.update_sessions.specs.Exchanges.{Side}
-use Rattle.update_sessions.specs.Hearing.{IsFaultOf, cause_of, client_side}
+use Rattle.update_sessions.specs.Hearing.{cause_of, client_side}
 use Rattle.update_sessions.specs.Serving.{after_request, server_side}
 use Rattle.update_sessions.specs.Kept.{kept_for}
-use Rattle.update_sessions.specs.StoreEnds.{PacketEnd, answered, refused, out_of_memory, keeper_lost}
 
 -- the bytes mean a message that the side takes, these are the packets of all that it sends for that, and this is the side after it
 pub record Turned {S M N : Type 0} (side : Side S M N) (s : S) (bytes out : List ℕ) (t : S) : Type 0 where
@@ -34,9 +34,7 @@ pub record Turned {S M N : Type 0} (side : Side S M N) (s : S) (bytes out : List
 pub record RefusesFrame (p : ProfileView) (c : ClientState) (bytes : List ℕ) (fault : ClientFault) : Type 0 where
   pub frame : Frame
   pub means : MeansFrame p frame bytes
-  pub cause : Cause
-  pub refuses : cause_of c frame ≡ Some cause
-  pub is : IsFaultOf cause fault
+  pub refuses : cause_of c frame ≡ Some fault
 
 -- What a client that asks makes of a packet's bytes: it takes their frame, and sends what is due then; or why it takes none, which leaves it as it was. Out of
 -- memory is free.
@@ -58,22 +56,23 @@ pub record TakesUnsent (p : ProfileView) (s : ServerState) (bytes : List ℕ) (e
   pub ends : t ≡ after_request s call.request
   pub kept : now_entries ≡ with_more (kept_for s call.request) entries
 
--- the bytes mean a post that would be kept, and nothing was
-pub record LosesPost (p : ProfileView) (s : ServerState) (bytes : List ℕ) (entries now_entries : Option (List Entry)) : Type 0 where
+-- the bytes mean a post that would be kept, and nothing was taken
+pub record LosesPost (p : ProfileView) (s : ServerState) (bytes : List ℕ) (entries now_entries : Option (List Entry)) (t : ServerState) : Type 0 where
   pub call : Numbered
   pub means : MeansCall p call bytes
   pub new : kept_for s call.request ≢ []
+  pub ends : t ≡ s
   pub kept : now_entries ≡ entries
 
 -- What a server makes of a packet's bytes: it takes their call, a new post is kept, and all that is sent for it is there; or why not. A refused packet
 -- changes nothing. Where memory runs out either nothing is taken, or the call is and its post is kept.
-abbrev pub AnswersPacket : ProfileView → ServerState → List ℕ → List ℕ → Option (List Entry) → Option (List Entry) → PacketEnd → Type 0
-AnswersPacket p s bytes out entries now_entries (answered t) = (turn : Turned (server_side p) s bytes out t) × (now_entries ≡ with_more (kept_for s turn.message.request) entries)
-AnswersPacket p s bytes out entries now_entries (refused t (Wire fault)) = WireRefused p calls bytes fault × (t ≡ s) × (now_entries ≡ entries)
-AnswersPacket p s bytes out entries now_entries (refused t (Client fault)) = ⊥
-AnswersPacket p s bytes out entries now_entries (refused t (Packet fault)) = ⊥
-AnswersPacket p s bytes out entries now_entries (refused t TooManyFrames) = ⊥
-AnswersPacket p s bytes out entries now_entries (refused t LinkFault) = ⊥
-AnswersPacket p s bytes out entries now_entries (refused t Memory) = ⊥
-AnswersPacket p s bytes out entries now_entries (out_of_memory t) = ((t ≡ s) × (now_entries ≡ entries)) ⊎ TakesUnsent p s bytes entries now_entries t
-AnswersPacket p s bytes out entries now_entries keeper_lost = LosesPost p s bytes entries now_entries
+abbrev pub AnswersPacket : ProfileView → ServerState → List ℕ → List ℕ → Option (List Entry) → Option (List Entry) → ServerState → Result (Unit {0}) StoreSession → Type 0
+AnswersPacket p s bytes out entries now_entries t (Ok u) = (turn : Turned (server_side p) s bytes out t) × (now_entries ≡ with_more (kept_for s turn.message.request) entries)
+AnswersPacket p s bytes out entries now_entries t (Err (store.Session (Wire fault))) = WireRefused p calls bytes fault × (t ≡ s) × (now_entries ≡ entries)
+AnswersPacket p s bytes out entries now_entries t (Err (store.Session (Client fault))) = ⊥
+AnswersPacket p s bytes out entries now_entries t (Err (store.Session (Packet fault))) = ⊥
+AnswersPacket p s bytes out entries now_entries t (Err (store.Session TooManyFrames)) = ⊥
+AnswersPacket p s bytes out entries now_entries t (Err (store.Session LinkFault)) = ⊥
+AnswersPacket p s bytes out entries now_entries t (Err (store.Session Memory)) = ⊥
+AnswersPacket p s bytes out entries now_entries t (Err store.Memory) = ((t ≡ s) × (now_entries ≡ entries)) ⊎ TakesUnsent p s bytes entries now_entries t
+AnswersPacket p s bytes out entries now_entries t (Err store.Failed) = LosesPost p s bytes entries now_entries t

@@ -12,13 +12,17 @@ use crate::fault::SessionFault;
 use crate::packing::put_calls;
 use box_client::{Client, ClientFault};
 use box_events::{Asks, Frame};
-use box_wire::read_frame;
+use box_wire::{Fault, read_frame};
 use std::alloc::Global;
 use tl_base::{Bytes, Memory};
 use wire_profile::Profile;
 
 /// A frame comes.
-pub fn hear_frame(alloc: Global, client: &mut Client, frame: Frame) -> Result<(), ClientFault>
+pub fn hear_frame(
+    alloc: Global,
+    client: &mut Client,
+    frame: Frame,
+) -> Result<(), Fault<ClientFault>>
     requires { IsHearable frame }
     ensures { HearsFrame client.old frame result client.new }
 {
@@ -80,8 +84,6 @@ pub fn hear_packet(
     ensures hears { HearsPacket profile.now client.old packet.now out.new client.new result }
     ensures next { client.new.next ≤ client.old.next + MAX_ASKS }
 {
-    // Read for the proof alone: that the profile is sound.
-    let _schema = profile.schema();
     let frame = read_frame(alloc, profile, packet)?;
     hear_frame(alloc, client, frame)?;
     put_asks(alloc, profile, client, asks, out)?;

@@ -18,7 +18,7 @@ pub enum SessionFault {
     /// The next packet is no message.
     #[error(transparent)]
     Wire(WireFault),
-    /// The client refuses the next frame. It holds no `Memory`.
+    /// The client refuses the next frame.
     #[error(transparent)]
     Client(ClientFault),
     /// So many frames as a session takes were taken; a client still asks.
@@ -72,16 +72,16 @@ impl From<Fault<WireFault>> for SessionFault {
     }
 }
 
-impl From<ClientFault> for SessionFault {
+impl From<Fault<ClientFault>> for SessionFault {
     ghost use Rattle.std.specs.Prelude.{◌≡◌};
     ghost use Rattle.update_sessions.specs.Faults.{of_client};
 
     ghost from_gives = { λ fault e. e ≡ of_client fault };
 
-    fn from(fault: ClientFault) -> SessionFault {
+    fn from(fault: Fault<ClientFault>) -> SessionFault {
         match fault {
-            ClientFault::Memory => SessionFault::Memory,
-            fault => SessionFault::Client(fault),
+            Fault::Refused(cause) => SessionFault::Client(cause),
+            Fault::Memory => SessionFault::Memory,
         }
     }
 }

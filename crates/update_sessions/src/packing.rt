@@ -33,8 +33,6 @@ pub fn put_frame(
     requires { frame_size frame.now ≤ MAX_FRAME_BYTES }
     ensures { OnOk result (Puts (SpellsFrame profile.now frame.now) out.old out.new) }
 {
-    // Read for the proof alone: that the profile is sound.
-    let _schema = profile.schema();
     match spell_frame(alloc, profile, frame) {
         Ok(bytes) => put_packet(bytes.as_slice(), out),
         Err(SpellFault::TooLong { .. }) => unreachable!(),
@@ -52,8 +50,6 @@ fn put_call(
     requires { call_size call.now ≤ MAX_FRAME_BYTES }
     ensures { OnOk result (Puts (SpellsCall profile.now call.now) out.old out.new) }
 {
-    // Read for the proof alone: that the profile is sound.
-    let _schema = profile.schema();
     match spell_call(alloc, profile, call) {
         Ok(bytes) => put_packet(bytes.as_slice(), out),
         Err(SpellFault::TooLong { .. }) => unreachable!(),

@@ -25,8 +25,6 @@ pub fn receive_frame<S: Source>(
     ensures hearable { IfOk result (λ next. IfSome next IsHearable) }
     ensures used { Used (S.state from.old) (S.state from.new) (IsErrOf result SessionFault.LinkFault) }
 {
-    // Read for the proof alone: that the profile is sound.
-    let _schema = profile.schema();
     if !read_packet(from, packet)? {
         return Ok(None);
     }

@@ -29,20 +29,13 @@ pub fn serve_session<L: Link>(
     ensures beside { L.beside link.new ≡ L.beside link.old }
     ensures never { LinkNeverFails (L.Source.state link.old) (L.Sink.state link.old) (MaySend (server_side profile.now) (dated_at server.old now)) (IsErrOf result SessionFault.LinkFault) }
 {
-    let store = Stored::over(replace(server, Server::new(alloc)));
-    match store_session(alloc, profile, store, link, now) {
-        Ok((store, calls)) => {
-            *server = store.into_server();
-            Ok(calls)
-        }
-        Err(StoreSession::Session { store, fault }) => {
-            *server = store.into_server();
-            Err(fault)
-        }
-        Err(StoreSession::Memory { store }) => {
-            *server = store.into_server();
-            Err(SessionFault::Memory)
-        }
-        Err(StoreSession::Failed { .. }) => unreachable!(),
+    let mut store = Stored::over(replace(server, Server::new(alloc)));
+    let end = store_session(alloc, profile, &mut store, link, now);
+    *server = store.into_server();
+    match end {
+        Ok(calls) => Ok(calls),
+        Err(StoreSession::Session { fault }) => Err(fault),
+        Err(StoreSession::Memory) => Err(SessionFault::Memory),
+        Err(StoreSession::Failed) => unreachable!(),
     }
 }

@@ -1,13 +1,12 @@
 //! Sessions of a server whose posts are kept.
-ghost use Rattle.std.specs.Prelude.{◌≡◌, ◌<◌, ◌^◌, Err};
+ghost use Rattle.std.specs.Prelude.{◌≡◌, ◌<◌, ◌^◌, Err, IsErrOf};
 ghost use Rattle.box_server.specs.Servers.{dated_at};
 ghost use Rattle.box_server.specs.Keeping.{Keeps};
 ghost use Rattle.update_sessions.specs.declared.fault.TheConstants.{MAX_FRAMES};
 ghost use Rattle.update_sessions.specs.Exchanges.{MaySend, MaySendFor};
-ghost use Rattle.update_sessions.specs.Kept.{RoomFor, Stores};
+ghost use Rattle.update_sessions.specs.Kept.{RoomFor, Stores, end_of};
 ghost use Rattle.update_sessions.specs.Links.{LinkNeverFails, UsesLink};
 ghost use Rattle.update_sessions.specs.Serving.{server_side};
-ghost use Rattle.update_sessions.specs.StoreEnds.{IsKeeperFailed, IsLinkFailed, end_of, session_keeper};
 ghost use Rattle.update_sessions.specs.inner.StoreSteps.{StoresNext};
 
 use crate::answering::answer_packet;
@@ -18,20 +17,13 @@ use tl_base::{Bytes, Link, PacketFault, read_packet, write_all};
 use wire_profile::Profile;
 
 /// Why a session of a store ended.
-#[derive(Drop)]
-pub enum StoreSession<K: Keeper> {
+#[derive(Clone, Copy)]
+pub enum StoreSession {
     /// As a session of its server ends. The fault is no `Memory`.
-    Session {
-        store: Stored<K>,
-        fault: SessionFault,
-    },
-    Memory {
-        store: Stored<K>,
-    },
+    Session { fault: SessionFault },
+    Memory,
     /// The keeper failed at a post, for which nothing was written.
-    Failed {
-        keeper: K,
-    },
+    Failed,
 }
 
 /// Answers each call of a link to its end, and says how many there were. A new post is kept before it is answered, and its receipt goes out with
@@ -39,33 +31,30 @@ pub enum StoreSession<K: Keeper> {
 pub fn store_session<K: Keeper, L: Link>(
     alloc: Global,
     profile: &Profile,
-    store: Stored<K>,
+    store: &mut Stored<K>,
     link: &mut L,
     now: u32,
-) -> Result<(Stored<K>, u64), StoreSession<K>>
+) -> Result<u64, StoreSession>
     requires moment { now < 2 ^ 31 }
-    ensures stores { Stores profile.now (dated_at store.server now) (L.Source.state link.old).left (L.Sink.state link.old).written (L.Sink.state link.new).written (K.state store.keeper).entries (K.state (session_keeper result)).entries (end_of result) }
-    ensures kept { Keeps (K.state store.keeper) (K.state (session_keeper result)) (IsKeeperFailed (end_of result)) (RoomFor profile.now MAX_FRAMES (dated_at store.server now) (L.Source.state link.old).left (L.Sink.state link.old).written (K.state store.keeper).room) }
-    ensures used { UsesLink (L.Source.state link.old) (L.Source.state link.new) (L.Sink.state link.old) (L.Sink.state link.new) (IsLinkFailed (end_of result)) }
+    ensures stores { Stores profile.now (dated_at store.old.server now) (L.Source.state link.old).left (L.Sink.state link.old).written (L.Sink.state link.new).written (K.state store.old.keeper).entries (K.state store.new.keeper).entries (end_of store.new.server result) }
+    ensures kept { Keeps (K.state store.old.keeper) (K.state store.new.keeper) (IsErrOf result StoreSession.Failed) (RoomFor profile.now MAX_FRAMES (dated_at store.old.server now) (L.Source.state link.old).left (L.Sink.state link.old).written (K.state store.old.keeper).room) }
+    ensures used { UsesLink (L.Source.state link.old) (L.Source.state link.new) (L.Sink.state link.old) (L.Sink.state link.new) (IsErrOf result (StoreSession.Session SessionFault.LinkFault)) }
     ensures beside { L.beside link.new ≡ L.beside link.old }
-    ensures never { LinkNeverFails (L.Source.state link.old) (L.Sink.state link.old) (MaySend (server_side profile.now) (dated_at store.server now)) (IsLinkFailed (end_of result)) }
+    ensures never { LinkNeverFails (L.Source.state link.old) (L.Sink.state link.old) (MaySend (server_side profile.now) (dated_at store.old.server now)) (IsErrOf result (StoreSession.Session SessionFault.LinkFault)) }
 {
-    let mut store = store;
     store.set_date(now);
     let mut packet = Bytes::new(alloc);
     let mut out = Bytes::new(alloc);
     for calls in 0..MAX_FRAMES {
-        let (after, more) = match serve_next(alloc, profile, store, link, &mut packet, &mut out) {
-            Ok(next) => next,
+        let more = match serve_next(alloc, profile, store, link, &mut packet, &mut out) {
+            Ok(more) => more,
             Err(end) => return Err(end),
         };
-        store = after;
         if !more {
-            return Ok((store, calls));
+            return Ok(calls);
         }
     }
     Err(StoreSession::Session {
-        store,
         fault: SessionFault::TooManyFrames,
     })
 }
@@ -75,36 +64,34 @@ pub fn store_session<K: Keeper, L: Link>(
 fn serve_next<K: Keeper, L: Link>(
     alloc: Global,
     profile: &Profile,
-    store: Stored<K>,
+    store: &mut Stored<K>,
     link: &mut L,
     packet: &mut Bytes,
     out: &mut Bytes,
-) -> Result<(Stored<K>, bool), StoreSession<K>>
-    ensures stores { StoresNext profile.now store.server (L.Source.state link.old).left (L.Sink.state link.old).written (L.Source.state link.new).left (L.Sink.state link.new).written (K.state store.keeper).entries (K.state (session_keeper result)).entries (end_of result) }
-    ensures kept { Keeps (K.state store.keeper) (K.state (session_keeper result)) (IsKeeperFailed (end_of result)) (RoomFor profile.now 1 store.server (L.Source.state link.old).left (L.Sink.state link.old).written (K.state store.keeper).room) }
-    ensures used { UsesLink (L.Source.state link.old) (L.Source.state link.new) (L.Sink.state link.old) (L.Sink.state link.new) (IsLinkFailed (end_of result)) }
+) -> Result<bool, StoreSession>
+    ensures stores { StoresNext profile.now store.old.server (L.Source.state link.old).left (L.Sink.state link.old).written (L.Source.state link.new).left (L.Sink.state link.new).written (K.state store.old.keeper).entries (K.state store.new.keeper).entries (end_of store.new.server result) }
+    ensures kept { Keeps (K.state store.old.keeper) (K.state store.new.keeper) (IsErrOf result StoreSession.Failed) (RoomFor profile.now 1 store.old.server (L.Source.state link.old).left (L.Sink.state link.old).written (K.state store.old.keeper).room) }
+    ensures used { UsesLink (L.Source.state link.old) (L.Source.state link.new) (L.Sink.state link.old) (L.Sink.state link.new) (IsErrOf result (StoreSession.Session SessionFault.LinkFault)) }
     ensures beside { L.beside link.new ≡ L.beside link.old }
-    ensures never { LinkNeverFails (L.Source.state link.old) (L.Sink.state link.old) (MaySendFor (server_side profile.now) 1 store.server) (IsLinkFailed (end_of result)) }
+    ensures never { LinkNeverFails (L.Source.state link.old) (L.Sink.state link.old) (MaySendFor (server_side profile.now) 1 store.old.server) (IsErrOf result (StoreSession.Session SessionFault.LinkFault)) }
 {
     match read_packet(link, packet) {
         Ok(true) => {}
-        Ok(false) => return Ok((store, false)),
-        Err(PacketFault::Memory) => return Err(StoreSession::Memory { store }),
+        Ok(false) => return Ok(false),
+        Err(PacketFault::Memory) => return Err(StoreSession::Memory),
         Err(fault) => {
             return Err(StoreSession::Session {
-                store,
                 fault: SessionFault::from(fault),
             });
         }
     }
-    let store = match answer_packet(alloc, profile, store, packet.as_slice(), out) {
-        Ok(store) => store,
+    match answer_packet(alloc, profile, store, packet.as_slice(), out) {
+        Ok(()) => {}
         Err(end) => return Err(end),
-    };
+    }
     match write_all(link, out.as_slice()) {
-        Ok(()) => Ok((store, true)),
+        Ok(()) => Ok(true),
         Err(_) => Err(StoreSession::Session {
-            store,
             fault: SessionFault::LinkFault,
         }),
     }

@@ -2,12 +2,12 @@
 use Rattle.std.specs.Prelude.{◌≡◌, ℕ, List, length, take, true, false, Bool, Result, Ok, Err}
 use Rattle.box_server.specs.Servers.{ServerState}
 use Rattle.box_server.specs.declared.entry.Entry.{Entry}
-use Rattle.box_server.specs.declared.loading.LoadFault.{LoadFault}
-use Rattle.box_server.specs.declared.loading.LoadFault.TheVariants.{BadEntry, Failed, Memory}
+use Rattle.box_server.specs.declared.store_fault.OpenFault.{OpenFault}
+use Rattle.box_server.specs.declared.store_fault.OpenFault.TheVariants.{BadEntry, Failed, Memory}
 use Rattle.box_server.specs.Rebuilding.{are_right, rebuilt, is_accepted, with_entry, IsBad}
 
 -- the server after all entries, or the first that isn't accepted
-abbrev pub Loads : {U : Type 0} → List Entry → ServerState → Result U LoadFault → Type 0
+abbrev pub Loads : {U : Type 0} → List Entry → ServerState → Result U OpenFault → Type 0
 Loads es t (Ok u) = (are_right es ≡ true) × (t ≡ rebuilt es)
 Loads es t (Err (BadEntry n)) = IsBad es n
 Loads es t (Err Failed) = Unit {0}

@@ -1,25 +1,28 @@
--- What calls answer: the step's answer, or none where memory ran out; and the keeper that is left. This project's own.
+-- What calls answer: the step's answer, or none where memory ran out. This project's own.
 use Rattle.std.specs.Prelude.{◌≡◌, ℕ, Option, Some, None, option_map, Result, Ok, Err}
 use Rattle.tl_base.specs.declared.packet.PacketFault.TheVariants as packet
 use Rattle.box_server.specs.Servers.{ServerState}
-use Rattle.box_server.specs.Storing.{StoredView}
+use Rattle.box_server.specs.declared.store_fault.KeepFault.{KeepFault}
+use Rattle.box_server.specs.declared.store_fault.KeepFault.TheVariants.{Failed, Memory}
+use Rattle.box_server.specs.declared.store_fault.OpenFault.{OpenFault}
+use Rattle.box_server.specs.declared.store_fault.OpenFault.TheVariants as opening
 use Rattle.outside.specs.declared.status.Status.{Status}
 use Rattle.outside.specs.Packets.{PacketView, whole, none, bad_length, ended, broken}
-use Rattle.outside.specs.Runs.{answered}
+use Rattle.outside.specs.declared.status.Status.TheVariants.{Refused}
+use Rattle.outside.specs.Begun.{Did}
+use Rattle.outside.specs.Events.{HostState}
+use Rattle.outside.specs.Pieces.{Tells}
+use Rattle.session_commands.specs.Keep.{bad_entry_line}
 use Rattle.update_sessions.specs.declared.fault.SessionFault.{SessionFault}
 use Rattle.update_sessions.specs.declared.fault.SessionFault.TheVariants.{Packet, LinkFault}
-use Rattle.serve_rooms.specs.Acts.{KeptState}
 use Rattle.serve_rooms.specs.Answering.{Answered, goes_on, has_ended, fails, unkept, Session, over, lost}
-use Rattle.serve_rooms.specs.Doing.{DidKept}
-use Rattle.serve_rooms.specs.Sessions.{Next, more, no_more, TellsKeepFault}
+use Rattle.serve_rooms.specs.Sessions.{Next, more, no_more, keep_fault_line}
 use Rattle.serve_rooms.specs.Telling.{Told, is_over}
 use Rattle.serve_rooms.specs.Telling as telling
 use Rattle.serve_rooms.specs.declared.answering.Outcome.{Outcome}
 use Rattle.serve_rooms.specs.declared.answering.Outcome.TheVariants as outcome
-use Rattle.serve_rooms.specs.declared.answering.Stopped.{Stopped}
-use Rattle.serve_rooms.specs.declared.answering.Stopped.TheVariants.{Memory, Lost}
-use Rattle.serve_rooms.specs.declared.status.KeptRun.{KeptRun}
 use Rattle.serve_rooms.specs.declared.status.KeptStatus.{KeptStatus}
+use Rattle.serve_rooms.specs.declared.status.KeptStatus.TheVariants as kept
 use Rattle.serve_rooms.specs.declared.telling.Tally.{Tally}
 
 -- ---- one packet
@@ -37,18 +40,10 @@ answered_as s outcome.Answered = goes_on s
 answered_as s outcome.Ended = has_ended s
 answered_as s (outcome.Failed fault) = fails s fault
 
-abbrev pub answered_by : {K : Type 0} → Result (StoredView K × Outcome) (Stopped K) → Option Answered
-answered_by (Ok x) = Some (answered_as x.0.server x.1)
-answered_by (Err (Memory keeper)) = None
-answered_by (Err (Lost keeper)) = Some unkept
-
-abbrev pub stopped_keeper : {K : Type 0} → Stopped K → K
-stopped_keeper (Memory keeper) = keeper
-stopped_keeper (Lost keeper) = keeper
-
-abbrev pub keeper_of : {K T : Type 0} → Result (StoredView K × T) (Stopped K) → K
-keeper_of (Ok x) = x.0.keeper
-keeper_of (Err stopped) = stopped_keeper stopped
+abbrev pub answered_by : ServerState → Result Outcome KeepFault → Option Answered
+answered_by t (Ok x) = Some (answered_as t x)
+answered_by t (Err Memory) = None
+answered_by t (Err Failed) = Some unkept
 
 -- ---- a session
 
@@ -58,10 +53,10 @@ end_at n outcome.Answered = None
 end_at n outcome.Ended = Some (Ok n)
 end_at n (outcome.Failed fault) = Some (Err fault)
 
-abbrev pub session_by : {K : Type 0} → Result (StoredView K × Result ℕ SessionFault) (Stopped K) → Option Session
-session_by (Ok x) = Some (over x.0.server x.1)
-session_by (Err (Memory keeper)) = None
-session_by (Err (Lost keeper)) = Some lost
+abbrev pub session_by : ServerState → Result (Result ℕ SessionFault) KeepFault → Option Session
+session_by t (Ok end) = Some (over t end)
+session_by t (Err Memory) = None
+session_by t (Err Failed) = Some lost
 
 abbrev pub told_as : Result Tally Status → Told
 told_as (Ok tally) = telling.goes_on tally
@@ -73,15 +68,16 @@ told_by (Err e) = None
 
 -- ---- sessions
 
-abbrev pub next_by : {K : Type 0} → Result (StoredView K × Tally) (KeptRun K) → Option Next
-next_by (Ok x) = Some (more x.0.server x.1)
-next_by (Err run) = option_map (λ status. no_more status) (answered run.end)
+abbrev pub next_as : ServerState → Result Tally KeptStatus → Next
+next_as t (Ok tally) = more t tally
+next_as t (Err status) = no_more status
 
-abbrev pub tallied_keeper : {K : Type 0} → Result (StoredView K × Tally) (KeptRun K) → K
-tallied_keeper (Ok x) = x.0.keeper
-tallied_keeper (Err run) = run.keeper
+abbrev pub next_by : {E : Type 0} → ServerState → Result (Result Tally KeptStatus) E → Option Next
+next_by t (Ok next) = Some (next_as t next)
+next_by t (Err e) = None
 
--- a keeper's failure is told; out of memory is handed on
-abbrev pub TellsStop : {K : Type 0} → Stopped K → KeptState → KeptState → Option KeptStatus → Type 0
-TellsStop (Memory keeper) old new answer = (answer ≡ None) × (new ≡ old)
-TellsStop (Lost keeper) old new answer = DidKept TellsKeepFault old new answer
+-- why entries aren't read is told; out of memory is handed on
+abbrev pub TellsUnopened : OpenFault → HostState → HostState → Option KeptStatus → Type 0
+TellsUnopened (opening.BadEntry n) old new end = (answer : Option Status) × Did (Tells (bad_entry_line n) Refused) old new answer × (end ≡ option_map (λ status. kept.Run status) answer)
+TellsUnopened opening.Failed old new end = Did (Tells keep_fault_line kept.KeepFault) old new end
+TellsUnopened opening.Memory old new end = (end ≡ None) × (new ≡ old)

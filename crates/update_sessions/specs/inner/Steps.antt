@@ -4,9 +4,9 @@ use Rattle.std.specs.Io.KnownBytes.{Appends}
 use Rattle.tl_base.specs.Packets.{packet}
 use Rattle.box_events.specs.declared.replies.Frame.{Frame}
 use Rattle.box_client.specs.States.{ClientState}
-use Rattle.box_client.specs.Replies.{Cause}
 use Rattle.box_client.specs.declared.fault.ClientFault.{ClientFault}
-use Rattle.box_client.specs.declared.fault.ClientFault.TheVariants as client
+use Rattle.tl_base.specs.declared.fault.Fault.{Fault}
+use Rattle.tl_base.specs.declared.fault.Fault.TheVariants as fault
 use Rattle.wire_profile.specs.Indexes.{ProfileView}
 use Rattle.box_wire.specs.Kinds.{frames}
 use Rattle.box_wire.specs.Framing.{WireRefused}
@@ -15,7 +15,7 @@ use Rattle.update_sessions.specs.declared.fault.SessionFault.TheVariants.{Packet
 use Rattle.update_sessions.specs.Links.{OverLink}
 use Rattle.update_sessions.specs.Exchanges.{Side, Exchanged, Cut}
 use Rattle.update_sessions.specs.Receiving.{RefusedPacket}
-use Rattle.update_sessions.specs.Hearing.{IsFaultOf, cause_of, client_side, hears}
+use Rattle.update_sessions.specs.Hearing.{cause_of, client_side, hears}
 use Rattle.update_sessions.specs.Heard.{NoFrame, RefusedFrame}
 
 -- ---- a buffer
@@ -25,10 +25,10 @@ abbrev pub Puts : (List ℕ → Type 0) → List ℕ → List ℕ → Type 0
 Puts Spells old new = (b : List ℕ) × Spells b × (new ≡ old ++ packet b)
 
 -- a client hears a frame, or refuses it
-abbrev pub HearsFrame : ClientState → Frame → Result (Unit {0}) ClientFault → ClientState → Type 0
+abbrev pub HearsFrame : ClientState → Frame → Result (Unit {0}) (Fault ClientFault) → ClientState → Type 0
 HearsFrame c f (Ok u) d = (cause_of c f ≡ None) × (d ≡ hears c f)
-HearsFrame c f (Err client.Memory) d = d ≡ c
-HearsFrame c f (Err fault) d = (cause : Cause) × (cause_of c f ≡ Some cause) × IsFaultOf cause fault × (d ≡ c)
+HearsFrame c f (Err (fault.Refused cause)) d = (cause_of c f ≡ Some cause) × (d ≡ c)
+HearsFrame c f (Err fault.Memory) d = d ≡ c
 
 -- ---- a step
 

@@ -8,13 +8,12 @@ use Rattle.box_events.specs.declared.requests.Request.{Request}
 use Rattle.box_server.specs.Servers.{ServerState}
 use Rattle.box_server.specs.declared.entry.Entry.{Entry}
 use Rattle.box_server.specs.Keeping.{with_more}
-use Rattle.box_server.specs.Storing.{StoredView}
+use Rattle.box_server.specs.declared.store_fault.KeepFault.{KeepFault}
+use Rattle.box_server.specs.declared.store_fault.KeepFault.TheVariants as keeping
 use Rattle.wire_profile.specs.Indexes.{ProfileView}
 use Rattle.box_wire.specs.Kinds.{calls}
 use Rattle.box_wire.specs.Framing.{WireRefused}
 use Rattle.update_sessions.specs.declared.answering.CallAnswer.{CallAnswer}
-use Rattle.update_sessions.specs.declared.answering.Untaken.{Untaken}
-use Rattle.update_sessions.specs.declared.answering.Untaken.TheVariants as untaken
 use Rattle.update_sessions.specs.declared.fault.SessionFault.{SessionFault}
 use Rattle.update_sessions.specs.declared.fault.SessionFault.TheVariants.{Packet, Wire, Client, TooManyFrames, LinkFault, Memory}
 use Rattle.update_sessions.specs.Exchanges.{after_all}
@@ -52,23 +51,11 @@ pub record Took (s : ServerState) (n : ℕ) (r : Request) (entries now_entries :
   pub server : t ≡ after_request s r
   pub appended : now_entries ≡ with_more (kept_for s r) entries
 
--- how a call was taken or not, and the keeper that comes back
-abbrev pub taken_end : {K : Type 0} → Result (StoredView K × CallAnswer) (Untaken K) → StoreEnd CallAnswer
-taken_end (Ok p) = ended p.0.server (Ok p.1)
-taken_end (Err (untaken.Memory store)) = ended store.server (Err Memory)
-taken_end (Err (untaken.Failed keeper)) = keeper_failed
-
-abbrev pub taken_keeper : {K : Type 0} → Result (StoredView K × CallAnswer) (Untaken K) → K
-taken_keeper (Ok p) = p.0.keeper
-taken_keeper (Err (untaken.Memory store)) = store.keeper
-taken_keeper (Err (untaken.Failed keeper)) = keeper
-
 -- where memory runs out, or the keeper fails at a post that would be kept, nothing is taken
-abbrev pub TakesCall : ServerState → ℕ → Request → Option (List Entry) → Option (List Entry) → StoreEnd CallAnswer → Type 0
-TakesCall s n r entries now_entries (ended t (Ok x)) = Took s n r entries now_entries t x
-TakesCall s n r entries now_entries (ended t (Err Memory)) = (t ≡ s) × (now_entries ≡ entries)
-TakesCall s n r entries now_entries (ended t (Err fault)) = ⊥
-TakesCall s n r entries now_entries keeper_failed = (kept_for s r ≢ []) × (now_entries ≡ entries)
+abbrev pub TakesCall : ServerState → ℕ → Request → Option (List Entry) → Option (List Entry) → ServerState → Result CallAnswer KeepFault → Type 0
+TakesCall s n r entries now_entries t (Ok x) = Took s n r entries now_entries t x
+TakesCall s n r entries now_entries t (Err keeping.Memory) = (t ≡ s) × (now_entries ≡ entries)
+TakesCall s n r entries now_entries t (Err keeping.Failed) = (kept_for s r ≢ []) × (t ≡ s) × (now_entries ≡ entries)
 
 -- ---- a step
 
@@ -94,7 +81,7 @@ abbrev pub NextOver : ProfileView → ServerState → Option (List ℕ) → Opti
 NextOver p s left written left_now written_now cs (ended t (Ok true)) = (length cs ≡ 1) × (t ≡ after_all (server_side p) s cs) × SoFar (server_side p) s cs left written left_now written_now t
 NextOver p s left written left_now written_now cs (ended t (Ok false)) = (cs ≡ []) × OverLink left written written_now (λ bytes out. Unmoved s out t × (bytes ≡ []))
 NextOver p s left written left_now written_now cs (ended t (Err fault)) = OverLink left written written_now (λ bytes out. ServesNone p s bytes out t fault cs)
-NextOver p s left written left_now written_now cs keeper_failed = (cs ≡ []) × OverLink left written written_now (λ bytes out. KeeperFails p s bytes out)
+NextOver p s left written left_now written_now cs (keeper_failed t) = (cs ≡ []) × (t ≡ s) × OverLink left written written_now (λ bytes out. KeeperFails p s bytes out)
 
 -- one step, with the call that was taken, if there is one
 pub record StoresNext (p : ProfileView) (s : ServerState) (left written left_now written_now : Option (List ℕ)) (entries now_entries : Option (List Entry)) (end : StoreEnd Bool) : Type 0 where

@@ -8,15 +8,15 @@ use Rattle.update_sessions.proofs.asking.hear_packet.Goals as goal
 pub returns-in_err-frame-clause-hears : goal.returns-in_err-frame-clause-hears
 returns-in_err-frame-clause-hears c =
     let q = err_from_is_err_and c.from_residual.result c.from_residual.ensures.1 in
-    rw (q.1, q.2) (turn_unread c.args.profile.now c.args.client.now c.args.packet.now c.args.out.now c.in_err-frame.field-0.0 c.in_err-frame.ensures.told)
+    rw (q.1, q.2) (turn_unread c.args.profile.now c.args.client.now c.args.packet.now c.args.out.now c.in_err-frame.field-0.0 c.in_err-frame.ensures.reads.told)
 
 pub returns-in_err-hear_frame-clause-hears : goal.returns-in_err-hear_frame-clause-hears
 returns-in_err-hear_frame-clause-hears c =
     let q = err_from_is_err_and c.from_residual-in_err-hear_frame.result c.from_residual-in_err-hear_frame.ensures.1 in
-    rw (q.1, q.2) (turn_refused c.args.profile.now c.args.client.now c.args.packet.now c.args.out.now c.in_ok-frame.frame c.in_ok-frame.ensures.given c.hear_frame.new.client c.in_err-hear_frame.field-0.0 c.in_err-hear_frame.ensures)
+    rw (q.1, q.2) (turn_refused c.args.profile.now c.args.client.now c.args.packet.now c.args.out.now c.in_ok-frame.frame c.in_ok-frame.ensures.reads.given c.hear_frame.new.client c.in_err-hear_frame.field-0.0 c.in_err-hear_frame.ensures)
 
 pub hear_frame-requires : goal.hear_frame-requires
-hear_frame-requires c = hearable c.args.profile.now c.schema-schema.ensures.sound c.in_ok-frame.frame c.args.packet.now c.in_ok-frame.ensures.given
+hear_frame-requires c = hearable c.args.profile.now c.in_ok-frame.ensures.sound c.in_ok-frame.frame c.args.packet.now c.in_ok-frame.ensures.reads.given
 
 pub put_asks-requires : goal.put_asks-requires
 put_asks-requires c = let same = next_ok c.args.client.now c.hear_frame.new.client c.in_ok-frame.frame c.in_ok-hear_frame.ensures.1 in omega (arith, same, c.requires.next)
@@ -29,5 +29,5 @@ returns-clause-next c = let same = next_ok c.args.client.now c.hear_frame.new.cl
 
 pub returns-clause-hears : goal.returns-clause-hears
 returns-clause-hears c =
-    turned c.args.profile.now c.args.client.now c.args.packet.now c.put_asks.new.out c.in_ok-frame.frame c.in_ok-frame.ensures.given c.hear_frame.new.client c.put_asks.new.client c.requires.asking c.in_ok-hear_frame.ensures
+    turned c.args.profile.now c.args.client.now c.args.packet.now c.put_asks.new.out c.in_ok-frame.frame c.in_ok-frame.ensures.reads.given c.hear_frame.new.client c.put_asks.new.client c.requires.asking c.in_ok-hear_frame.ensures
     c.put_asks.ensures.ticks c.in_ok-put_asks.ensures.asks

@@ -7,4 +7,4 @@ pub unreachable-requires : goal.unreachable-requires
 unreachable-requires c =
     let p = c.args.profile.now in
     let f = c.args.frame.now in
-    never_too_long (SpellsFrame p f) (frame_size f) c.in-Err-TooLong.field-0-0 (frame_sized p c.schema-schema.ensures.sound f) c.requires (rw c.in-Err-TooLong.field-0-is at c.in-Err-TooLong.ensures)
+    never_too_long (SpellsFrame p f) (frame_size f) c.in-Err-TooLong.field-0-0 (frame_sized p c.in-Err-TooLong.ensures.sound f) c.requires (rw c.in-Err-TooLong.field-0-is at c.in-Err-TooLong.ensures.spelled)

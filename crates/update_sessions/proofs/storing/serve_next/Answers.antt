@@ -1,4 +1,4 @@
-use Rattle.std.proofs.Common.{List, ℕ, length, refl, sym, ◌∙◌, subst}
+use Rattle.std.proofs.Common.{List, ℕ, length, Err, refl, sym, ◌∙◌, subst}
 use Rattle.std.specs.Prelude.{IsErr}
 use Rattle.tl_base.specs.Using.{Wrote}
 use Rattle.tl_base.specs.declared.packet.PacketFault.TheVariants as packets
@@ -8,6 +8,7 @@ use Rattle.box_wire.specs.Kinds.{calls}
 use Rattle.update_sessions.specs.Exchanges.{MaySendFor}
 use Rattle.update_sessions.specs.Packed.{MeansCall}
 use Rattle.update_sessions.specs.Serving.{server_side}
+use Rattle.update_sessions.specs.Turns.{AnswersPacket}
 use Rattle.update_sessions.specs.Faults.{of_packet}
 use Rattle.update_sessions.specs.declared.fault.SessionFault.TheVariants.{Memory}
 use Rattle.update_sessions.proofs.KeepsRoom.{keeps_still}
@@ -15,7 +16,7 @@ use Rattle.update_sessions.proofs.LinkUses.{IsOne, uses_as, uses_read, uses_then
 use Rattle.update_sessions.proofs.Received.{message, no_more, no_packet, packet_link_failed, refused_message}
 use Rattle.update_sessions.proofs.ServerSteps.{next_cut, next_done, next_ended, next_none}
 use Rattle.update_sessions.proofs.Stepping.{never_as, reads_never, step_never}
-use Rattle.update_sessions.proofs.Untaken.{answered_keeps, unanswered_keeps, unanswered_never, unanswered_none}
+use Rattle.update_sessions.proofs.Untaken.{answered_keeps, unanswered_never, unanswered_none}
 use Rattle.update_sessions.proofs.storing.serve_next.Goals as goal
 
 pub returns-in-Ok-false-clause-stores : goal.returns-in-Ok-false-clause-stores
@@ -24,12 +25,12 @@ returns-in-Ok-false-clause-stores g c =
     let to = g.L.Sink in
     let keeper = g.K.Keeper.state in
     let p = c.args.profile.now in
-    let s = c.args.store.server in
+    let s = c.args.store.now.server in
     let a = from.state c.args.link.now in
     let b = from.state c.read_packet.new.from in
     let x = to.state c.args.link.now in
     let y = to.state c.read_packet.new.from in
-    let old = keeper c.args.store.keeper in
+    let old = keeper c.args.store.now.keeper in
     let into = c.read_packet.new.into in
     let written = g.met.L.Link.reading_keeps_written c.args.link.now c.read_packet.new.from (sym c.read_packet.ensures.used.kept) in
     next_ended p s a.left x.written b.left y.written old.entries old.entries (no_more {M = Numbered} (MeansCall p) (WireRefused p calls) a.left b.left into (rw c.in-Ok-false.field-0-test at c.in-Ok-false.ensures.bytes)) written refl
@@ -53,12 +54,12 @@ returns-in-Err-Memory-clause-stores g c =
     let to = g.L.Sink in
     let keeper = g.K.Keeper.state in
     let p = c.args.profile.now in
-    let s = c.args.store.server in
+    let s = c.args.store.now.server in
     let a = from.state c.args.link.now in
     let b = from.state c.read_packet.new.from in
     let x = to.state c.args.link.now in
     let y = to.state c.read_packet.new.from in
-    let old = keeper c.args.store.keeper in
+    let old = keeper c.args.store.now.keeper in
     let into = c.read_packet.new.into in
     let written = g.met.L.Link.reading_keeps_written c.args.link.now c.read_packet.new.from (sym c.read_packet.ensures.used.kept) in
     next_none p s a.left x.written b.left y.written old.entries old.entries Memory (no_packet {M = Numbered} (MeansCall p) (WireRefused p calls) a.left b.left into packets.Memory (rw c.in-Err-Memory.field-0-is at c.in-Err-Memory.ensures.bytes) (rw c.in-Err-Memory.field-0-is at c.in-Err-Memory.ensures.into)) written refl
@@ -82,12 +83,12 @@ returns-in-Err g c =
     let to = g.L.Sink in
     let keeper = g.K.Keeper.state in
     let p = c.args.profile.now in
-    let s = c.args.store.server in
+    let s = c.args.store.now.server in
     let a = from.state c.args.link.now in
     let b = from.state c.read_packet.new.from in
     let x = to.state c.args.link.now in
     let y = to.state c.read_packet.new.from in
-    let old = keeper c.args.store.keeper in
+    let old = keeper c.args.store.now.keeper in
     let into = c.read_packet.new.into in
     let fault = c.in-Err.fault in
     let written = g.met.L.Link.reading_keeps_written c.args.link.now c.read_packet.new.from (sym c.read_packet.ensures.used.kept) in
@@ -95,10 +96,10 @@ returns-in-Err g c =
     let uses = uses_read a b x y _ c.read_packet.ensures.used written room in
     record {
       stores = rw c.from.ensures (next_none p s a.left x.written b.left y.written old.entries old.entries (of_packet fault) (no_packet {M = Numbered} (MeansCall p) (WireRefused p calls) a.left b.left into fault c.in-Err.ensures.bytes c.in-Err.ensures.into) written refl);
-      kept = keeps_still old _;
-      used = uses_as a b x y _ _ uses (λ e. packet_link_failed c.read_packet.result _ fault c.from.result c.in-Err.is c.from.ensures refl e);
+      kept = keeps_still old _ _ (λ e. absurd cc);
+      used = uses_as a b x y _ _ uses (λ e. packet_link_failed c.read_packet.result fault c.from.result c.in-Err.is c.from.ensures cc);
       beside = g.met.L.Link.reading_keeps_beside c.read_packet.new.from c.args.link.now c.read_packet.ensures.used.kept;
-      never = never_as a x (MaySendFor (server_side p) 1 s) _ _ (reads_never a b x (MaySendFor (server_side p) 1 s) _ c.read_packet.ensures.used) (λ e. packet_link_failed c.read_packet.result _ fault c.from.result c.in-Err.is c.from.ensures refl e);
+      never = never_as a x (MaySendFor (server_side p) 1 s) _ _ (reads_never a b x (MaySendFor (server_side p) 1 s) _ c.read_packet.ensures.used) (λ e. packet_link_failed c.read_packet.result fault c.from.result c.in-Err.is c.from.ensures cc);
     }
 
 pub returns-in-Err-answer_packet-clause-stores : goal.returns-in-Err-answer_packet-clause-stores
@@ -107,18 +108,19 @@ returns-in-Err-answer_packet-clause-stores g c =
     let to = g.L.Sink in
     let keeper = g.K.Keeper.state in
     let p = c.args.profile.now in
-    let s = c.args.store.server in
+    let s = c.args.store.now.server in
     let a = from.state c.args.link.now in
     let b = from.state c.read_packet.new.from in
     let x = to.state c.args.link.now in
     let y = to.state c.read_packet.new.from in
-    let old = keeper c.args.store.keeper in
+    let old = keeper c.args.store.now.keeper in
+    let new = keeper c.answer_packet.new.store.keeper in
     let into = c.read_packet.new.into in
     let out = c.answer_packet.new.out in
     let written = g.met.L.Link.reading_keeps_written c.args.link.now c.read_packet.new.from (sym c.read_packet.ensures.used.kept) in
     let r = λ (m : Numbered) (means : MeansCall p m into). message (MeansCall p) (WireRefused p calls) a.left b.left into m (rw c.in-Ok-true.field-0-test at c.in-Ok-true.ensures.bytes) (rw c.in-Ok-true.field-0-test at c.in-Ok-true.ensures.into) means in
-    unanswered_none p s a.left x.written b.left into out r (λ k. (keeper k).entries) old.entries y.written c.in-Err-answer_packet.end
-    (λ fault refused. refused_message {M = Numbered} (MeansCall p) (WireRefused p calls) a.left b.left into fault (rw c.in-Ok-true.field-0-test at c.in-Ok-true.ensures.bytes) (rw c.in-Ok-true.field-0-test at c.in-Ok-true.ensures.into) refused) written (rw c.as_slice.ensures.value at c.in-Err-answer_packet.ensures.answers)
+    unanswered_none p s a.left x.written b.left into out r old.entries new.entries y.written c.answer_packet.new.store.server c.in-Err-answer_packet.end
+    (λ fault refused. refused_message {M = Numbered} (MeansCall p) (WireRefused p calls) a.left b.left into fault (rw c.in-Ok-true.field-0-test at c.in-Ok-true.ensures.bytes) (rw c.in-Ok-true.field-0-test at c.in-Ok-true.ensures.into) refused) written (subst (λ (l : List ℕ). AnswersPacket p s l out old.entries new.entries c.answer_packet.new.store.server (Err c.in-Err-answer_packet.end)) c.as_slice.ensures.value c.in-Err-answer_packet.ensures.answers)
 
 pub returns-in-Err-answer_packet-clause-kept : goal.returns-in-Err-answer_packet-clause-kept
 returns-in-Err-answer_packet-clause-kept g c =
@@ -126,15 +128,14 @@ returns-in-Err-answer_packet-clause-kept g c =
     let to = g.L.Sink in
     let keeper = g.K.Keeper.state in
     let p = c.args.profile.now in
-    let s = c.args.store.server in
+    let s = c.args.store.now.server in
     let a = from.state c.args.link.now in
     let b = from.state c.read_packet.new.from in
     let x = to.state c.args.link.now in
-    let old = keeper c.args.store.keeper in
+    let old = keeper c.args.store.now.keeper in
     let into = c.read_packet.new.into in
-    let out = c.answer_packet.new.out in
     let r = λ (m : Numbered) (means : MeansCall p m into). message (MeansCall p) (WireRefused p calls) a.left b.left into m (rw c.in-Ok-true.field-0-test at c.in-Ok-true.ensures.bytes) (rw c.in-Ok-true.field-0-test at c.in-Ok-true.ensures.into) means in
-    unanswered_keeps p s a.left x.written b.left into out r keeper old c.in-Err-answer_packet.end (rw c.as_slice.ensures.value at c.in-Err-answer_packet.ensures.kept)
+    answered_keeps p s a.left x.written b.left into r old (keeper c.answer_packet.new.store.keeper) _ _ (λ e. cc) (rw c.as_slice.ensures.value at c.in-Err-answer_packet.ensures.kept)
 
 pub returns-in-Err-answer_packet-clause-used : goal.returns-in-Err-answer_packet-clause-used
 returns-in-Err-answer_packet-clause-used g c =
@@ -142,20 +143,20 @@ returns-in-Err-answer_packet-clause-used g c =
     let to = g.L.Sink in
     let keeper = g.K.Keeper.state in
     let p = c.args.profile.now in
-    let s = c.args.store.server in
+    let s = c.args.store.now.server in
     let a = from.state c.args.link.now in
     let b = from.state c.read_packet.new.from in
     let x = to.state c.args.link.now in
     let y = to.state c.read_packet.new.from in
-    let old = keeper c.args.store.keeper in
+    let old = keeper c.args.store.now.keeper in
+    let new = keeper c.answer_packet.new.store.keeper in
     let into = c.read_packet.new.into in
     let out = c.answer_packet.new.out in
     let written = g.met.L.Link.reading_keeps_written c.args.link.now c.read_packet.new.from (sym c.read_packet.ensures.used.kept) in
     let room = g.met.L.Link.reading_keeps_room c.args.link.now c.read_packet.new.from (sym c.read_packet.ensures.used.kept) in
     let uses = uses_read a b x y _ c.read_packet.ensures.used written room in
-    let r = λ (m : Numbered) (means : MeansCall p m into). message (MeansCall p) (WireRefused p calls) a.left b.left into m (rw c.in-Ok-true.field-0-test at c.in-Ok-true.ensures.bytes) (rw c.in-Ok-true.field-0-test at c.in-Ok-true.ensures.into) means in
     uses_as a b x y _ _ uses
-    (λ e. absurd (unanswered_never p s a.left x.written b.left into out r old.entries _ c.in-Err-answer_packet.end (rw c.as_slice.ensures.value at c.in-Err-answer_packet.ensures.answers) e))
+    (λ e. absurd (unanswered_never p s into out old.entries new.entries c.answer_packet.new.store.server c.in-Err-answer_packet.end (subst (λ (l : List ℕ). AnswersPacket p s l out old.entries new.entries c.answer_packet.new.store.server (Err c.in-Err-answer_packet.end)) c.as_slice.ensures.value c.in-Err-answer_packet.ensures.answers) cc))
 
 pub returns-in-Ok-write_all-clause-stores : goal.returns-in-Ok-write_all-clause-stores
 returns-in-Ok-write_all-clause-stores g c =
@@ -163,15 +164,15 @@ returns-in-Ok-write_all-clause-stores g c =
     let to = g.L.Sink in
     let keeper = g.K.Keeper.state in
     let p = c.args.profile.now in
-    let s = c.args.store.server in
+    let s = c.args.store.now.server in
     let a = from.state c.args.link.now in
     let b = from.state c.read_packet.new.from in
     let d = from.state c.write_all.new.to in
     let x = to.state c.args.link.now in
     let y = to.state c.read_packet.new.from in
     let z = to.state c.write_all.new.to in
-    let old = keeper c.args.store.keeper in
-    let new = keeper c.in-Ok.store.keeper in
+    let old = keeper c.args.store.now.keeper in
+    let new = keeper c.answer_packet.new.store.keeper in
     let into = c.read_packet.new.into in
     let out = c.answer_packet.new.out in
     let written = g.met.L.Link.reading_keeps_written c.args.link.now c.read_packet.new.from (sym c.read_packet.ensures.used.kept) in
@@ -179,7 +180,7 @@ returns-in-Ok-write_all-clause-stores g c =
     let r = λ (m : Numbered) (means : MeansCall p m into). message (MeansCall p) (WireRefused p calls) a.left b.left into m (rw c.in-Ok-true.field-0-test at c.in-Ok-true.ensures.bytes) (rw c.in-Ok-true.field-0-test at c.in-Ok-true.ensures.into) means in
     let answers = rw c.as_slice.ensures.value at c.in-Ok.ensures.answers in
     let turn = answers.0 in
-    next_done p s turn.message a.left x.written b.left y.written (r turn.message turn.means) written old.entries new.entries c.in-Ok.store.server turn.ends answers.1 out d.left z.written turn.sent left
+    next_done p s turn.message a.left x.written b.left y.written (r turn.message turn.means) written old.entries new.entries c.answer_packet.new.store.server turn.ends answers.1 out d.left z.written turn.sent left
     (rw c.as_slice-2.ensures.value at c.in-Ok-write_all.ensures.bytes)
 
 pub returns-in-Ok-write_all-clause-kept : goal.returns-in-Ok-write_all-clause-kept
@@ -188,16 +189,16 @@ returns-in-Ok-write_all-clause-kept g c =
     let to = g.L.Sink in
     let keeper = g.K.Keeper.state in
     let p = c.args.profile.now in
-    let s = c.args.store.server in
+    let s = c.args.store.now.server in
     let a = from.state c.args.link.now in
     let b = from.state c.read_packet.new.from in
     let x = to.state c.args.link.now in
-    let old = keeper c.args.store.keeper in
-    let new = keeper c.in-Ok.store.keeper in
+    let old = keeper c.args.store.now.keeper in
+    let new = keeper c.answer_packet.new.store.keeper in
     let into = c.read_packet.new.into in
     let out = c.answer_packet.new.out in
     let r = λ (m : Numbered) (means : MeansCall p m into). message (MeansCall p) (WireRefused p calls) a.left b.left into m (rw c.in-Ok-true.field-0-test at c.in-Ok-true.ensures.bytes) (rw c.in-Ok-true.field-0-test at c.in-Ok-true.ensures.into) means in
-    answered_keeps p s a.left x.written b.left into r old new ⊥ ⊥ (λ f. f) (rw c.as_slice.ensures.value at c.in-Ok.ensures.kept)
+    answered_keeps p s a.left x.written b.left into r old new _ _ (λ e. absurd cc) (rw c.as_slice.ensures.value at c.in-Ok.ensures.kept)
 
 pub returns-in-Ok-write_all-clause-used : goal.returns-in-Ok-write_all-clause-used
 returns-in-Ok-write_all-clause-used g c =
@@ -228,22 +229,22 @@ returns-in-Err-write_all-clause-stores g c =
     let to = g.L.Sink in
     let keeper = g.K.Keeper.state in
     let p = c.args.profile.now in
-    let s = c.args.store.server in
+    let s = c.args.store.now.server in
     let a = from.state c.args.link.now in
     let b = from.state c.read_packet.new.from in
     let d = from.state c.write_all.new.to in
     let x = to.state c.args.link.now in
     let y = to.state c.read_packet.new.from in
     let z = to.state c.write_all.new.to in
-    let old = keeper c.args.store.keeper in
-    let new = keeper c.in-Ok.store.keeper in
+    let old = keeper c.args.store.now.keeper in
+    let new = keeper c.answer_packet.new.store.keeper in
     let into = c.read_packet.new.into in
     let out = c.answer_packet.new.out in
     let written = g.met.L.Link.reading_keeps_written c.args.link.now c.read_packet.new.from (sym c.read_packet.ensures.used.kept) in
     let r = λ (m : Numbered) (means : MeansCall p m into). message (MeansCall p) (WireRefused p calls) a.left b.left into m (rw c.in-Ok-true.field-0-test at c.in-Ok-true.ensures.bytes) (rw c.in-Ok-true.field-0-test at c.in-Ok-true.ensures.into) means in
     let answers = rw c.as_slice.ensures.value at c.in-Ok.ensures.answers in
     let turn = answers.0 in
-    next_cut p s turn.message a.left x.written b.left y.written (r turn.message turn.means) written old.entries new.entries c.in-Ok.store.server turn.ends answers.1 out d.left z.written turn.sent
+    next_cut p s turn.message a.left x.written b.left y.written (r turn.message turn.means) written old.entries new.entries c.answer_packet.new.store.server turn.ends answers.1 out d.left z.written turn.sent
     (rw c.as_slice-2.ensures.value at c.in-Err-write_all.ensures.bytes)
 
 pub returns-in-Err-write_all-clause-kept : goal.returns-in-Err-write_all-clause-kept
@@ -252,16 +253,16 @@ returns-in-Err-write_all-clause-kept g c =
     let to = g.L.Sink in
     let keeper = g.K.Keeper.state in
     let p = c.args.profile.now in
-    let s = c.args.store.server in
+    let s = c.args.store.now.server in
     let a = from.state c.args.link.now in
     let b = from.state c.read_packet.new.from in
     let x = to.state c.args.link.now in
-    let old = keeper c.args.store.keeper in
-    let new = keeper c.in-Ok.store.keeper in
+    let old = keeper c.args.store.now.keeper in
+    let new = keeper c.answer_packet.new.store.keeper in
     let into = c.read_packet.new.into in
     let out = c.answer_packet.new.out in
     let r = λ (m : Numbered) (means : MeansCall p m into). message (MeansCall p) (WireRefused p calls) a.left b.left into m (rw c.in-Ok-true.field-0-test at c.in-Ok-true.ensures.bytes) (rw c.in-Ok-true.field-0-test at c.in-Ok-true.ensures.into) means in
-    answered_keeps p s a.left x.written b.left into r old new ⊥ ⊥ (λ f. f) (rw c.as_slice.ensures.value at c.in-Ok.ensures.kept)
+    answered_keeps p s a.left x.written b.left into r old new _ _ (λ e. absurd cc) (rw c.as_slice.ensures.value at c.in-Ok.ensures.kept)
 
 pub returns-in-Err-write_all-clause-used : goal.returns-in-Err-write_all-clause-used
 returns-in-Err-write_all-clause-used g c =
@@ -292,7 +293,7 @@ returns-in-Err-write_all-clause-never g c =
     let to = g.L.Sink in
     let keeper = g.K.Keeper.state in
     let p = c.args.profile.now in
-    let s = c.args.store.server in
+    let s = c.args.store.now.server in
     let a = from.state c.args.link.now in
     let b = from.state c.read_packet.new.from in
     let x = to.state c.args.link.now in
@@ -309,5 +310,5 @@ returns-in-Err-write_all-clause-never g c =
     let one : IsOne b y = record { faults = g.met.L.Link.one_count c.read_packet.new.from; sound = g.met.L.Link.one_truth c.read_packet.new.from } in
     let wrote = subst (λ (l : List ℕ). Wrote y z (length l) (IsErr c.write_all.result)) c.as_slice-2.ensures.value c.write_all.ensures.used in
     never_as a x (MaySendFor (server_side p) 1 s) (IsErr c.write_all.result) _
-    (step_never (server_side p) (WireRefused p calls) s c.in-Ok.store.server turn.message out tt a b x y z _ (IsErr c.write_all.result) (r turn.message turn.means) uses written turn.sent turn.ends one wrote)
+    (step_never (server_side p) (WireRefused p calls) s c.answer_packet.new.store.server turn.message out tt a b x y z _ (IsErr c.write_all.result) (r turn.message turn.means) uses written turn.sent turn.ends one wrote)
     (λ e. rw c.in-Err-write_all.is refl)

@@ -1,5 +1,6 @@
 use Rattle.std.proofs.Common.{◌∙◌, Bool, Ok, ap, refl, rules, subst}
 use Rattle.std.specs.Prelude.{⊤}
+use Rattle.box_server.proofs.Added.{keeps_as}
 use Rattle.box_server.specs.Servers.{dated_at}
 use Rattle.update_sessions.specs.declared.fault.TheConstants.{MAX_FRAMES}
 use Rattle.update_sessions.specs.Exchanges.{MaySend}
@@ -10,7 +11,7 @@ use Rattle.update_sessions.proofs.KeepsRoom.{keeps_more, keeps_next, keeps_same}
 use Rattle.update_sessions.proofs.LinkUses.{uses_as, uses_none, uses_then}
 use Rattle.update_sessions.proofs.ServerSteps.{so_far_first, so_far_next, stores_ended}
 use Rattle.update_sessions.proofs.Stepping.{never_as, never_then}
-use Rattle.update_sessions.proofs.Untaken.{ends_fail, ends_keeps, ends_stores}
+use Rattle.update_sessions.proofs.Untaken.{ends_stores}
 use Rattle.update_sessions.proofs.storing.store_session.Goals as goal
 
 pub returns-in-Err-clause-stores : goal.returns-in-Err-clause-stores
@@ -19,7 +20,7 @@ returns-in-Err-clause-stores g c =
     let to = g.L.Sink.state in
     let keeper = g.K.Keeper.state in
     let p = c.args.profile.now in
-    let s = dated_at c.args.store.server c.args.now in
+    let s = dated_at c.args.store.now.server c.args.now in
     let u = c.loop-calls.store.server in
     let n = c.loop-calls.calls in
     let so = c.loop-calls.invariant.so_far in
@@ -30,10 +31,10 @@ returns-in-Err-clause-stores g c =
     let x = to c.args.link.now in
     let y = to c.loop-calls.link in
     let z = to c.serve_next.new.link in
-    let first = keeper c.args.store.keeper in
+    let first = keeper c.args.store.now.keeper in
     let mid = keeper c.loop-calls.store.keeper in
     let end = c.in-Err.end in
-    ends_stores p s u n a.left x.written b.left y.written (λ k. (keeper k).entries) first.entries mid.entries so few d.left z.written end c.in-Err.ensures.stores
+    ends_stores p s u n a.left x.written b.left y.written first.entries mid.entries (keeper c.serve_next.new.store.keeper).entries so few d.left z.written c.serve_next.new.store.server end c.in-Err.ensures.stores
 
 pub returns-in-Err-clause-kept : goal.returns-in-Err-clause-kept
 returns-in-Err-clause-kept g c =
@@ -41,7 +42,7 @@ returns-in-Err-clause-kept g c =
     let to = g.L.Sink.state in
     let keeper = g.K.Keeper.state in
     let p = c.args.profile.now in
-    let s = dated_at c.args.store.server c.args.now in
+    let s = dated_at c.args.store.now.server c.args.now in
     let u = c.loop-calls.store.server in
     let n = c.loop-calls.calls in
     let so = c.loop-calls.invariant.so_far in
@@ -50,10 +51,10 @@ returns-in-Err-clause-kept g c =
     let b = from c.loop-calls.link in
     let x = to c.args.link.now in
     let y = to c.loop-calls.link in
-    let first = keeper c.args.store.keeper in
+    let first = keeper c.args.store.now.keeper in
     let mid = keeper c.loop-calls.store.keeper in
-    let end = c.in-Err.end in
-    ends_keeps p s u n a.left x.written b.left y.written keeper first mid so few c.loop-calls.invariant.kept end c.in-Err.ensures.kept
+    let last = keeper c.serve_next.new.store.keeper in
+    keeps_as first last _ _ _ _ (λ es fits. fits) (λ e. cc) (keeps_next p MAX_FRAMES s u n a.left x.written b.left y.written first mid last _ so few c.loop-calls.invariant.kept c.in-Err.ensures.kept)
 
 pub returns-in-Err-clause-used : goal.returns-in-Err-clause-used
 returns-in-Err-clause-used g c =
@@ -65,8 +66,7 @@ returns-in-Err-clause-used g c =
     let x = to c.args.link.now in
     let y = to c.loop-calls.link in
     let z = to c.serve_next.new.link in
-    let end = c.in-Err.end in
-    uses_then a b d x y z ⊥ _ c.loop-calls.invariant.used (uses_as b d y z _ _ c.in-Err.ensures.used (λ e. ends_fail end e))
+    uses_then a b d x y z ⊥ _ c.loop-calls.invariant.used (uses_as b d y z _ _ c.in-Err.ensures.used (λ e. cc))
 
 pub returns-in-Err-clause-beside : goal.returns-in-Err-clause-beside
 returns-in-Err-clause-beside g c =
@@ -77,7 +77,7 @@ returns-in-Err-clause-never g c =
     let from = g.L.Source.state in
     let to = g.L.Sink.state in
     let p = c.args.profile.now in
-    let s = dated_at c.args.store.server c.args.now in
+    let s = dated_at c.args.store.now.server c.args.now in
     let u = c.loop-calls.store.server in
     let n = c.loop-calls.calls in
     let so = c.loop-calls.invariant.so_far in
@@ -86,9 +86,8 @@ returns-in-Err-clause-never g c =
     let b = from c.loop-calls.link in
     let x = to c.args.link.now in
     let y = to c.loop-calls.link in
-    let end = c.in-Err.end in
     let side = server_side p in
-    never_as a x (MaySend side s) _ _ (never_then side MAX_FRAMES s u n a b x y _ _ few (so.calls, so.count, so.link) c.loop-calls.invariant.used c.in-Err.ensures.never) (λ e. ends_fail end e)
+    never_as a x (MaySend side s) _ _ (never_then side MAX_FRAMES s u n a b x y _ _ few (so.calls, so.count, so.link) c.loop-calls.invariant.used c.in-Err.ensures.never) (λ e. cc)
 
 pub returns-then-not-more-clause-stores : goal.returns-then-not-more-clause-stores
 returns-then-not-more-clause-stores g c =
@@ -96,7 +95,7 @@ returns-then-not-more-clause-stores g c =
     let to = g.L.Sink.state in
     let keeper = g.K.Keeper.state in
     let p = c.args.profile.now in
-    let s = dated_at c.args.store.server c.args.now in
+    let s = dated_at c.args.store.now.server c.args.now in
     let u = c.loop-calls.store.server in
     let n = c.loop-calls.calls in
     let so = c.loop-calls.invariant.so_far in
@@ -107,10 +106,10 @@ returns-then-not-more-clause-stores g c =
     let x = to c.args.link.now in
     let y = to c.loop-calls.link in
     let z = to c.serve_next.new.link in
-    let first = keeper c.args.store.keeper in
+    let first = keeper c.args.store.now.keeper in
     let mid = keeper c.loop-calls.store.keeper in
-    let last = keeper c.in-Ok.next.0.keeper in
-    let t = c.in-Ok.next.0.server in
+    let last = keeper c.serve_next.new.store.keeper in
+    let t = c.serve_next.new.store.server in
     stores_ended p s u n a.left x.written b.left y.written first.entries mid.entries so few d.left z.written last.entries t (subst (λ (v : Bool). StoresNext p u b.left y.written d.left z.written mid.entries last.entries (ended t (Ok v))) (search rules) c.in-Ok.ensures.stores)
 
 pub returns-then-not-more-clause-kept : goal.returns-then-not-more-clause-kept
@@ -119,7 +118,7 @@ returns-then-not-more-clause-kept g c =
     let to = g.L.Sink.state in
     let keeper = g.K.Keeper.state in
     let p = c.args.profile.now in
-    let s = dated_at c.args.store.server c.args.now in
+    let s = dated_at c.args.store.now.server c.args.now in
     let u = c.loop-calls.store.server in
     let n = c.loop-calls.calls in
     let so = c.loop-calls.invariant.so_far in
@@ -128,10 +127,10 @@ returns-then-not-more-clause-kept g c =
     let b = from c.loop-calls.link in
     let x = to c.args.link.now in
     let y = to c.loop-calls.link in
-    let first = keeper c.args.store.keeper in
+    let first = keeper c.args.store.now.keeper in
     let mid = keeper c.loop-calls.store.keeper in
-    let last = keeper c.in-Ok.next.0.keeper in
-    keeps_next p MAX_FRAMES s u n a.left x.written b.left y.written first mid last ⊥ so few c.loop-calls.invariant.kept c.in-Ok.ensures.kept
+    let last = keeper c.serve_next.new.store.keeper in
+    keeps_as first last _ _ _ _ (λ es fits. fits) (λ e. absurd cc) (keeps_next p MAX_FRAMES s u n a.left x.written b.left y.written first mid last _ so few c.loop-calls.invariant.kept c.in-Ok.ensures.kept)
 
 pub returns-then-not-more-clause-used : goal.returns-then-not-more-clause-used
 returns-then-not-more-clause-used g c =
@@ -155,7 +154,7 @@ loop-calls-preserved g c =
     let to = g.L.Sink.state in
     let keeper = g.K.Keeper.state in
     let p = c.args.profile.now in
-    let s = dated_at c.args.store.server c.args.now in
+    let s = dated_at c.args.store.now.server c.args.now in
     let u = c.loop-calls.store.server in
     let n = c.loop-calls.calls in
     let so = c.loop-calls.invariant.so_far in
@@ -165,13 +164,13 @@ loop-calls-preserved g c =
     let x = to c.args.link.now in
     let y = to c.loop-calls.link in
     let z = to c.serve_next.new.link in
-    let first = keeper c.args.store.keeper in
+    let first = keeper c.args.store.now.keeper in
     let mid = keeper c.loop-calls.store.keeper in
-    let last = keeper c.in-Ok.next.0.keeper in
-    let t = c.in-Ok.next.0.server in
+    let last = keeper c.serve_next.new.store.keeper in
+    let t = c.serve_next.new.store.server in
     record {
       so_far = so_far_next p s u n a.left x.written b.left y.written first.entries mid.entries so t d.left z.written last.entries (subst (λ (v : Bool). StoresNext p u b.left y.written d.left z.written mid.entries last.entries (ended t (Ok v))) (search rules) c.in-Ok.ensures.stores);
-      kept = keeps_more first mid last (kept_in s so.calls) (RoomFor p 1 u b.left y.written mid.room) so.appended c.loop-calls.invariant.kept c.in-Ok.ensures.kept;
+      kept = keeps_more first mid last (kept_in s so.calls) _ (RoomFor p 1 u b.left y.written mid.room) so.appended c.loop-calls.invariant.kept c.in-Ok.ensures.kept;
       used = uses_then a b d x y z ⊥ ⊥ c.loop-calls.invariant.used (uses_as b d y z _ ⊥ c.in-Ok.ensures.used (λ e. absurd e));
       beside = ◌∙◌ {a = g.L.Link.beside c.serve_next.new.link} c.serve_next.ensures.beside c.loop-calls.invariant.beside;
     }
@@ -182,13 +181,13 @@ loop-calls-init g c =
     let to = g.L.Sink.state in
     let keeper = g.K.Keeper.state in
     let p = c.args.profile.now in
-    let s = dated_at c.args.store.server c.args.now in
+    let s = dated_at c.args.store.now.server c.args.now in
     let a = from c.args.link.now in
     let x = to c.args.link.now in
-    let first = keeper c.args.store.keeper in
+    let first = keeper c.args.store.now.keeper in
     record {
       so_far = so_far_first p s c.set_date.new.self.server a.left x.written first.entries (keeper c.set_date.new.self.keeper).entries c.set_date.ensures.server (ap (λ k. (keeper k).entries) c.set_date.ensures.keeper);
-      kept = keeps_same keeper c.args.store.keeper c.set_date.new.self.keeper (λ _. ⊤) c.set_date.ensures.keeper;
+      kept = keeps_same keeper c.args.store.now.keeper c.set_date.new.self.keeper (λ _. ⊤) c.set_date.ensures.keeper;
       used = uses_none a x ⊥ (λ f. f);
       beside = refl;
     }

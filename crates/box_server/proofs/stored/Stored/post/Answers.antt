@@ -1,7 +1,7 @@
 use Rattle.std.proofs.Common.{rules, ap, ℤ, ◌++◌, ◌≤◌, length, subst, sym, w64, Result}
 use Rattle.std.specs.Prelude.{IsErrOf}
 use Rattle.std.proofs.lemmas.Int.{to_z-of_z}
-use Rattle.box_server.specs.Answering.{TakesThem}
+use Rattle.box_server.specs.Answering.{TakesPosts}
 use Rattle.box_server.specs.Keeping.{Keeps}
 use Rattle.box_server.specs.Rebuilding.{kept_of}
 use Rattle.box_server.specs.Storing.{StoredView}
@@ -10,7 +10,7 @@ use Rattle.box_server.specs.declared.store_fault.StoreFault.{StoreFault}
 use Rattle.box_server.specs.declared.store_fault.StoreFault.TheVariants.{Failed}
 use Rattle.box_server.specs.inner.Taking.{store_answer}
 use Rattle.box_server.proofs.Added.{keeps_taken, plan_as, posts_taken, tells_taken}
-use Rattle.box_server.proofs.stored.Stored.take.Goals as goal
+use Rattle.box_server.proofs.stored.Stored.post.Goals as goal
 
 pub invariant_of-self : goal.invariant_of-self
 invariant_of-self g c =
@@ -25,9 +25,9 @@ returns-in-New-clause-posts g c =
     let plan = plan_as s _ c.args.posts _ c.in-New.keys c.in-New.draft c.as_slice.ensures (rw c.in-New.is at c.in-Ok.ensures.prepares) in
     let old : StoredView _ = record { keeper = j; server = s } in
     let new : StoredView _ = record { keeper = c.take.new.keeper; server = c.take.new.self } in
-    subst (λ (v : StoredView _). TakesThem v c.args.random_id c.args.posts c.store_answer.result new) c.self.view_is
-    (subst (λ (x : Result Posted StoreFault). TakesThem old c.args.random_id c.args.posts x new) (sym c.store_answer.ensures)
-    (subst (λ (z : ℤ). TakesThem old z c.args.posts (store_answer c.take.result) new) (to_z-of_z w64 c.args.random_id (search rules))
+    subst (λ (v : StoredView _). TakesPosts v c.args.random_id c.args.posts c.store_answer.result new) c.self.view_is
+    (subst (λ (x : Result Posted StoreFault). TakesPosts old c.args.random_id c.args.posts x new) (sym c.store_answer.ensures)
+    (subst (λ (z : ℤ). TakesPosts old z c.args.posts (store_answer c.take.result) new) (to_z-of_z w64 c.args.random_id (search rules))
     (posts_taken g.K.Keeper.state j c.take.new.keeper s c.take.new.self _ c.args.posts c.in-New.keys c.in-New.draft plan c.state.result.date (ap (λ s. s.date) c.state.ensures.value) c.take.result c.take.ensures.takes c.take.ensures.adds)))
 
 pub returns-in-New-clause-used : goal.returns-in-New-clause-used
