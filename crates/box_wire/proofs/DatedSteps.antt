@@ -4,7 +4,6 @@ use Rattle.std.proofs.Common.{◌≡◌, ℕ, ◌<◌, ◌^◌, Bool, true, fals
 use Rattle.std.proofs.lemmas.Bool.{eqb-true}
 use Rattle.tl_types.specs.Values.{ValueView, int, long, nat, opaque, text, truth, absent, list, node, call, ValueViews}
 use Rattle.box_events.specs.declared.steps.Step.{Step}
-use Rattle.box_events.specs.declared.steps.Step.TheVariants as step
 use Rattle.wire_forms.specs.Parts.{at, word_of}
 use Rattle.wire_forms.specs.declared.numbers.TheConstants.{STEP_POST, STEP_DATE, STEP_SERVE, STEP_HEAR, STEP_TICK, STEP_WAKE, STEP_WATCH, STEP_RESTART, STEP_TOO_LONG}
 use Rattle.wire_values.specs.Steps.{step_at, step_in}

@@ -3,12 +3,14 @@ use Rattle.std.proofs.Common.{◌≡◌, ℕ, ◌<◌, List, [], ◌++◌, lengt
 use Rattle.std.specs.Prelude.{IfOk, IfErr}
 use Rattle.tl_numbers.specs.Bytes.{AreBytes}
 use Rattle.tl_schema.specs.Formed.{IsFormed}
+use Rattle.tl_types.specs.Seen.{view}
 use Rattle.tl_types.specs.Values.{ValueView}
 use Rattle.tl_types.specs.Refusal as refusal
 use Rattle.tl_types.specs.Exactly.{BeginsWith, ExactlyOne}
 use Rattle.tl_types.specs.Offsets.{moved}
 use Rattle.tl_types.specs.declared.cause.Cause.{Cause}
 use Rattle.tl_types.specs.declared.value.TheConstants.{MAX_LEVELS}
+use Rattle.tl_types.specs.declared.value.Value.{Value}
 use Rattle.tl_types.proofs.Exactly.{exactly_one}
 use Rattle.tl_decode.specs.Wholes.{ReadsWhole}
 use Rattle.tl_decode.specs.declared.whole.WholeFault.{WholeFault}
@@ -52,6 +54,11 @@ refused_as p q c d e f = cc
 
 no_more : (bytes x rest : List ℕ) → bytes ≡ x → bytes ≡ x ++ rest → 0 < length rest → ⊥
 no_more bytes x rest same is some = let e = ap length same in let f = ap length is ∙ length-append x rest in omega (arith, e, f, some)
+
+-- a value that is read is spelled
+pub value_spelled : (p : ProfileView) (kind : Kind) (bytes : List ℕ) (r : Result Value (Fault WireFault)) → ReadsValue p.schema (cell_shape p kind.cell) bytes r → IfOk r (λ value. SpellsWhole p kind (view value) bytes)
+value_spelled p kind bytes (Ok value) spelled = spelled
+value_spelled p kind bytes (Err e) none = tt
 
 module _ (p : ProfileView) (good : IsProfile p) (kind : Kind) (formed : IsFormed p.schema (cell_shape p kind.cell)) (bytes : List ℕ) (are : AreBytes bytes) where
   one : ExactlyOne p.schema MAX_LEVELS (cell_shape p kind.cell) bytes
@@ -136,6 +143,10 @@ module _ (p : ProfileView) (good : IsProfile p) (kind : Kind) (formed : IsFormed
 
     pub reads_none : (e : Fault WireFault) → ReadsValue p.schema (cell_shape p kind.cell) bytes (Err e) → ReadsThem (Err e)
     reads_none e none = reads_by (Err e) tt (told_of e none.0 none.1 none.2)
+
+    pub none_read : (r : Result Value (Fault WireFault)) → ReadsValue p.schema (cell_shape p kind.cell) bytes r → IfErr r (λ e. ReadsThem (Err e))
+    none_read (Ok value) spelled = tt
+    none_read (Err e) none = reads_none e none
 
     answered : (v : ValueView) → SpellsWhole p kind v bytes → (o : Option WireFault) → kind.cause (owned p v) ≡ o → (r : Result M (Fault WireFault)) → AnswersMessage o (inside (owned p v)) r → Given r × Told r
     answered v s (Some e) c (Ok x) is = absurd (ok_or_err x (fault.Refused e) is)

@@ -2,6 +2,7 @@
 ghost use Rattle.std.specs.Prelude.{⊤};
 ghost use Rattle.tl_types.specs.Seen.{view};
 ghost use Rattle.wire_profile.specs.Causes.{call_cause};
+ghost use Rattle.wire_profile.specs.Profiles.{IsProfile};
 ghost use Rattle.wire_values.specs.Calls.{call_in as call_by, call_tree};
 ghost use Rattle.box_wire.specs.Answers.{Reads, Spelled};
 ghost use Rattle.box_wire.specs.Framing.{Framed, Means, WireRefused};
@@ -19,11 +20,13 @@ use wire_values::{call_of, call_value};
 
 /// Spells a call. Each of which `FitsCall` has a spelling; another is answered as out of memory.
 pub fn spell_call(alloc: Global, profile: &Profile, call: &Numbered) -> Result<Bytes, SpellFault>
-    ensures { Spelled (Framed profile.now calls (call_tree call.now)) result }
+    ensures spelled { Spelled (Framed profile.now calls (call_tree call.now)) result }
+    ensures sound { IsProfile profile.now }
 {
+    let schema = profile.schema();
     let mut value = call_value(alloc, call)?;
     profile.put_indexes(&mut value);
-    within(bytes_of_call(alloc, profile.schema(), &value)?)
+    within(bytes_of_call(alloc, schema, &value)?)
 }
 
 /// Reads a call. A call of any function of the schema is decoded, so that one that no server answers is told from bytes that are none.

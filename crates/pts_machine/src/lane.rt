@@ -112,10 +112,7 @@ impl<E: Counted> Lane<E> {
             return Seen::Already;
         }
         if is_next(self.mode, start, self.at) {
-            match self.events.push(event) {
-                Ok(()) => {}
-                Err(_) => unreachable!(),
-            }
+            self.events.push_reserved(event);
             self.at = settle(&mut self.events, end, &mut self.gap);
             self.spare -= 1;
             return Seen::Applied { to: self.at };

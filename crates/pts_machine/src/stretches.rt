@@ -16,10 +16,7 @@ pub fn append<E: Counted>(into: &mut Vec<E>, at: u32, events: Vec<E>) -> u32
     let mut at = at;
     for event in events {
         at += event.count();
-        match into.push(event) {
-            Ok(()) => {}
-            Err(_) => unreachable!(),
-        }
+        into.push_reserved(event);
     }
     at
 }

@@ -24,9 +24,6 @@ impl<E: Drop> Takes<E> for Vec<E> {
     ghost took = { Pushed };
 
     fn take_in(&mut self, item: E) {
-        match self.push(item) {
-            Ok(()) => {}
-            Err(_) => unreachable!(),
-        }
+        self.push_reserved(item);
     }
 }

@@ -9,17 +9,13 @@ use Rattle.tl_base.specs.Contents.{Files, HoldBytes}
 use Rattle.tl_base.specs.Packets.{packet}
 use Rattle.tl_base.specs.declared.packet.PacketFault.{PacketFault}
 use Rattle.tl_types.proofs.Numbers.{begins_word}
-use Rattle.box_events.specs.Weaves.{overlaps, uneven}
-use Rattle.box_events.specs.declared.difference_fault.WeaveFault.TheVariants as weaving
 use Rattle.box_events.specs.declared.replies.Frame.{Frame}
 use Rattle.box_events.specs.declared.requests.Numbered.{Numbered}
 use Rattle.box_events.specs.declared.saved.Saved.{Saved}
 use Rattle.box_client.specs.Asking.{is_one_asking, ticks, wakes}
-use Rattle.box_client.specs.Replies.{Cause, no_list, peer_error, seq_back, wrong_kind}
 use Rattle.box_client.specs.Saving.{LoadCause, bad_channels, bad_lane, bad_next, bad_settings, client_loaded, load_cause, saved_of}
 use Rattle.box_client.specs.States.{ClientState, new_client}
 use Rattle.box_client.specs.declared.fault.ClientFault.{ClientFault}
-use Rattle.box_client.specs.declared.fault.ClientFault.TheVariants as client
 use Rattle.box_client.specs.declared.fault.LoadFault.TheVariants as load
 use Rattle.box_world.specs.Streams.{begun}
 use Rattle.wire_profile.specs.declared.wire_fault.WireFault.{WireFault}
@@ -44,7 +40,7 @@ use Rattle.update_sessions.specs.declared.fault.SessionFault.TheVariants as faul
 use Rattle.update_sessions.specs.declared.fault.TheConstants.{MAX_FRAMES}
 use Rattle.update_sessions.specs.Exchanges.{Exchanged}
 use Rattle.update_sessions.specs.Heard.{HearsOn, NoFrame, RefusedFrame, StillAsks, asked}
-use Rattle.update_sessions.specs.Hearing.{IsFaultOf, IsTaken, cause_of, client_side, hears}
+use Rattle.update_sessions.specs.Hearing.{IsTaken, cause_of, client_side, hears}
 use Rattle.update_sessions.specs.Honest.{HearsHonestly}
 use Rattle.update_sessions.specs.Packed.{MeansFrame, Packed, SpellsCall}
 use Rattle.update_sessions.specs.Receiving.{ComesFirst, RefusedPacket}
@@ -52,7 +48,6 @@ use Rattle.update_sessions.proofs.Exchanging.{exchanged_none, exchanged_one, exc
 use Rattle.update_sessions.proofs.HonestFrames.{honestly}
 use Rattle.outside.specs.Answer.{Answer, refused}
 use Rattle.outside.proofs.SameFiles.{file_bytes}
-use Rattle.fault_lines.specs.Answers.{answer_line}
 use Rattle.fault_lines.proofs.Profiled.{each_profiled}
 use Rattle.session_commands.specs.declared.state.TheConstants.{MAX_STATE_BYTES}
 use Rattle.session_commands.specs.Lines.{packet_line}
@@ -83,19 +78,11 @@ waits_by c false is = calm is
 
 data Fate (c : ClientState) (f : Frame) : Type 0 where
   taken : cause_of c f ≡ None → Fate c f
-  refuses : (cause : Cause) → cause_of c f ≡ Some cause → Fate c f
+  refuses : (cause : ClientFault) → cause_of c f ≡ Some cause → Fate c f
 
-fate_by : (c : ClientState) (f : Frame) (o : Option Cause) → cause_of c f ≡ o → Fate c f
+fate_by : (c : ClientState) (f : Frame) (o : Option ClientFault) → cause_of c f ≡ o → Fate c f
 fate_by c f None is = taken is
 fate_by c f (Some cause) is = refuses cause is
-
--- each cause has a fault with a line
-pub told_fault : (cause : Cause) → (fault : ClientFault) × IsFaultOf cause fault × ((line : List ℕ) × (answer_line fault ≡ Some line))
-told_fault (peer_error code) = (client.PeerError code, refl, (_, refl))
-told_fault wrong_kind = (client.WrongKind, refl, (_, refl))
-told_fault (no_list (overlaps pts)) = (client.Weave (weaving.Overlap pts), refl, (_, refl))
-told_fault (no_list (uneven a b k)) = (client.Weave (weaving.Uneven a b k), refl, (_, refl))
-told_fault (seq_back at seq) = (client.SeqBack at seq, refl, (_, refl))
 
 module _ (p : ProfileView) (good : IsProfile p) where
   -- ---- what is sent
@@ -115,14 +102,14 @@ module _ (p : ProfileView) (good : IsProfile p) where
     full : is_one_asking d ≡ true → k ≡ n → HearEnd left d n k
     none : is_one_asking d ≡ true → k < n → (f : PacketFault) (line : List ℕ) → NoFrame left f → IsWordLong f → packet_line f ≡ Some line → HearEnd left d n k
     no_message : is_one_asking d ≡ true → k < n → (f : WireFault) → RefusedPacket (WireRefused p frames) left f → HearEnd left d n k
-    no_answer : is_one_asking d ≡ true → k < n → (f : Frame) (e : ClientFault) (line : List ℕ) → RefusedFrame p d left f e → answer_line e ≡ Some line → HearEnd left d n k
+    no_answer : is_one_asking d ≡ true → k < n → (f : Frame) (e : ClientFault) → RefusedFrame p d left f e → HearEnd left d n k
 
   one_on : (left : List ℕ) (d : ClientState) (n k : ℕ) → HearEnd left d n k → HearEnd left d (suc n) (suc k)
   one_on left d n k (ended is le) = ended is (omega (arith, le))
   one_on left d n k (full asks is) = full asks (omega (arith, is))
   one_on left d n k (none asks less f line h few tells) = none asks (omega (arith, less)) f line h few tells
   one_on left d n k (no_message asks less f h) = no_message asks (omega (arith, less)) f h
-  one_on left d n k (no_answer asks less f e line h tells) = no_answer asks (omega (arith, less)) f e line h tells
+  one_on left d n k (no_answer asks less f e h) = no_answer asks (omega (arith, less)) f e h
 
   record Hearing (n : ℕ) (c : ClientState) (bytes : List ℕ) : Type 0 where
     taken_frames : List Frame
@@ -199,9 +186,8 @@ module _ (p : ProfileView) (good : IsProfile p) where
                       (each_hearing n (suc k) (d + brought_by m.0) (ticks (hears c m.0)).client b.rest (rest_bytes bytes b.body b.rest b.parts are) (going_ticks k (d + brought_by m.0) (hears c m.0) heard) (omega (arith, few))
                       (omega (arith, small, brings, long))))
                   | refuses cause is ↦
-                      (let told = told_fault cause in
                       stops (suc n) k d c bytes h (omega (arith, few)) (omega (arith, small))
-                      (no_answer asks (omega arith) m.0 told.0 told.2.0 (record { rest = b.rest; comes = comes; cause = cause; refuses = is; is = told.1 }) told.2.1))
+                      (no_answer asks (omega arith) m.0 cause (record { rest = b.rest; comes = comes; refuses = is }))
                 ])
             | inr r ↦
                 stops (suc n) k d c bytes h (omega (arith, few)) (omega (arith, small))
@@ -235,7 +221,7 @@ module _ (p : ProfileView) (good : IsProfile p) where
     by_end (full asks is) = fails fault.TooManyFrames _ (of_hears (Err fault.TooManyFrames) [] (g.left, g.exchanged, asks, is, refl)) tt refl
     by_end (none asks less f line h short tells) = fails (fault.Packet f) line (of_hears (Err (fault.Packet f)) [] (g.left, still asks less, h, refl)) short tells
     by_end (no_message asks less f h) = fails (fault.Wire f) _ (of_hears (Err (fault.Wire f)) [] (g.left, still asks less, h, refl)) tt refl
-    by_end (no_answer asks less f e line h tells) = fails (fault.Client e) line (of_hears (Err (fault.Client e)) (f ∷ []) (g.left, f, still asks less, h, refl)) tt tells
+    by_end (no_answer asks less f e h) = fails (fault.Client e) _ (of_hears (Err (fault.Client e)) (f ∷ []) (g.left, f, still asks less, h, refl)) tt refl
 
   each_session : (address name : List ℕ) (d : ℕ) (c : ClientState) (given : List ℕ) → AreBytes given → IsGoing 0 d c → d + length given ≤ MOST → (a : Answer) × OfSession p address name c given a
   each_session address name d c given are h small =

@@ -36,7 +36,8 @@ use Rattle.pts_machine.proofs.StateSteps as soundness
 use Rattle.pts_machine.proofs.Stores.{len_puts}
 use Rattle.box_events.specs.DifferenceLaws.{AreCountedOthers}
 use Rattle.box_events.specs.Refusal.{AreOthers}
-use Rattle.box_events.specs.Weaves.{WeaveCause, woven_of}
+use Rattle.box_events.specs.Weaves.{woven_of}
+use Rattle.box_events.specs.declared.difference_fault.WeaveFault.{WeaveFault}
 use Rattle.box_events.proofs.Made.{is_woven_of_others, keeps_counts, reaches}
 use Rattle.channel_box.specs.States.{ChannelState, first, has_id}
 use Rattle.channel_box.specs.Steps as boxes
@@ -325,7 +326,7 @@ taken_low : (d : ℕ) (back : Bool) (c : ClientState) (b : Received) (xs ys : Li
 taken_low d true c b xs ys e is up word h x y = absurd cc
 taken_low d false c b xs ys e is up word h x y = subst (LowClient (d + length b.settings)) (becomes_is (group_done b.last c b xs ys) e is) (done_low d b.last c b xs ys (up refl) word h x y)
 
-woven_low : (d : ℕ) (c : ClientState) (b : Received) (o p : Result (List EventView) WeaveCause) (e : ClientState) → group_woven c b o p ≡ becomes e → IsWord b.state.seq → LowClient d c → ((xs : List EventView) → o ≡ Ok xs → LowLane (extend count_of c.common xs b.last))
+woven_low : (d : ℕ) (c : ClientState) (b : Received) (o p : Result (List EventView) WeaveFault) (e : ClientState) → group_woven c b o p ≡ becomes e → IsWord b.state.seq → LowClient d c → ((xs : List EventView) → o ≡ Ok xs → LowLane (extend count_of c.common xs b.last))
     → ((ys : List EventView) → p ≡ Ok ys → LowLane (extend count_of c.secret ys b.last)) → LowClient (d + length b.settings) e
 woven_low d c b (Err cause) p e is word h x y = absurd cc
 woven_low d c b (Ok xs) (Err cause) e is word h x y = absurd cc
@@ -355,7 +356,7 @@ group_low d c (reply.Channel r) e is h f range = absurd cc
 group_low d c (reply.Receipt receipt) e is h f range = absurd cc
 group_low d c (reply.Error code text) e is h f range = absurd cc
 
-grown_low : (c : ChannelState) (last : Bool) (o : Result (List EventView) WeaveCause) (e : ChannelState) → boxes.grown c last o ≡ Ok e → ((xs : List EventView) → o ≡ Ok xs → LowLane (extend count_of c.lane xs last)) → LowChannel e
+grown_low : (c : ChannelState) (last : Bool) (o : Result (List EventView) WeaveFault) (e : ChannelState) → boxes.grown c last o ≡ Ok e → ((xs : List EventView) → o ≡ Ok xs → LowLane (extend count_of c.lane xs last)) → LowChannel e
 grown_low c last (Err cause) e is x = absurd cc
 grown_low c last (Ok xs) e is x = subst LowChannel (ok_is _ e is) (x xs refl)
 
@@ -364,7 +365,7 @@ channel_low c (channel.Empty pts last) e is h range = grown_low c last (woven_of
 channel_low c (channel.Part pts news others last) e is h range = grown_low c last (woven_of c.lane.at pts news others) e is (λ xs same. lane_woven c.lane pts news others last xs same range.0 range.2 range.3 h)
 channel_low c (channel.TooLong pts recent last) e is h range = subst LowChannel (ok_is _ e is) (lane_restarted c.lane pts range h)
 
-by_channel : (d : ℕ) (c : ClientState) (n : ℕ) (o : Result ChannelState WeaveCause) (e : ClientState) → by_channels c (boxes.taken_by c.channels n o) ≡ becomes e → LowClient d c → ((x : ChannelState) → o ≡ Ok x → LowChannel x) → LowClient d e
+by_channel : (d : ℕ) (c : ClientState) (n : ℕ) (o : Result ChannelState WeaveFault) (e : ClientState) → by_channels c (boxes.taken_by c.channels n o) ≡ becomes e → LowClient d c → ((x : ChannelState) → o ≡ Ok x → LowChannel x) → LowClient d e
 by_channel d c n (Err cause) e is h law = absurd cc
 by_channel d c n (Ok x) e is h law = subst (LowClient d) (becomes_is _ e is) (record {
   common = h.common;

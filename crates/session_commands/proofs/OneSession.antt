@@ -6,8 +6,6 @@ use Rattle.tl_encode.proofs.OneSpelling.{one_spelling}
 use Rattle.box_events.specs.declared.replies.Frame.{Frame}
 use Rattle.box_events.specs.declared.requests.Numbered.{Numbered}
 use Rattle.box_client.specs.Asking.{is_one_asking, ticks, wakes}
-use Rattle.box_client.specs.Replies.{Cause, peer_error, wrong_kind, no_list, seq_back}
-use Rattle.box_events.specs.Weaves.{overlaps, uneven}
 use Rattle.box_client.specs.States.{ClientState}
 use Rattle.box_client.specs.declared.fault.ClientFault.{ClientFault}
 use Rattle.box_world.specs.Streams.{begun}
@@ -27,7 +25,7 @@ use Rattle.update_sessions.specs.declared.fault.SessionFault.TheVariants.{Packet
 use Rattle.update_sessions.specs.declared.fault.TheConstants.{MAX_FRAMES}
 use Rattle.update_sessions.specs.Exchanges.{Exchanged}
 use Rattle.update_sessions.specs.Heard.{NoFrame, RefusedFrame, HearsOn, IsBrokenOff, Hears, broke_off, asked}
-use Rattle.update_sessions.specs.Hearing.{IsTaken, IsFaultOf, cause_of, client_side}
+use Rattle.update_sessions.specs.Hearing.{IsTaken, cause_of, client_side}
 use Rattle.update_sessions.specs.Packed.{Came, MeansFrame, Packed, SpellsCall}
 use Rattle.update_sessions.specs.Receiving.{ComesFirst, RefusedPacket}
 use Rattle.session_commands.specs.Post.{IsWordLong}
@@ -59,14 +57,6 @@ some_is x y e = cc
 
 none_some : {A : Type 0} (x : A) → None ≡ Some x → ⊥
 none_some x e = cc
-
--- a cause has one fault
-one_client_fault : (cause : Cause) (f g : ClientFault) → IsFaultOf cause f → IsFaultOf cause g → f ≡ g
-one_client_fault (peer_error code) f g h k = h ∙ sym k
-one_client_fault wrong_kind f g h k = h ∙ sym k
-one_client_fault (no_list (overlaps pts)) f g h k = h ∙ sym k
-one_client_fault (no_list (uneven a b c)) f g h k = h ∙ sym k
-one_client_fault (seq_back at seq) f g h k = h ∙ sym k
 
 module _ (p : ProfileView) (good : IsProfile p) where
   one_frame : (b : List ℕ) → AreBytes b → (f g : Frame) → MeansFrame p f b → MeansFrame p g b → f ≡ g
@@ -106,7 +96,7 @@ module _ (p : ProfileView) (good : IsProfile p) where
 
   client_stops : (left rest : List ℕ) (d : ClientState) (m f : Frame) (fault : ClientFault) → AreBytes left → RefusedFrame p d left f fault → ComesFirst (MeansFrame p) m left rest → cause_of d m ≡ None → ⊥
   client_stops left rest d m f fault are r c clear =
-      none_some r.cause (sym clear ∙ ap (cause_of d) (first_frame left rest r.rest m f are c r.comes) ∙ r.refuses)
+      none_some fault (sym clear ∙ ap (cause_of d) (first_frame left rest r.rest m f are c r.comes) ∙ r.refuses)
 
   -- no more is taken
   stops_so : (left : List ℕ) (d : ClientState) (k : ℕ) (r : Result ℕ SessionFault) → AreBytes left → EndsSo left d k r → (m : Frame) (rest : List ℕ) → k < MAX_FRAMES → ComesFirst (MeansFrame p) m left rest → IsTaken d m → ⊥
@@ -184,8 +174,7 @@ module _ (p : ProfileView) (good : IsProfile p) where
   same_client : (left : List ℕ) (c : ClientState) (f g : Frame) (d e : ClientFault) → AreBytes left → RefusedFrame p c left f d → RefusedFrame p c left g e → d ≡ e
   same_client left c f g d e are r s =
       let same = first_frame left r.rest s.rest f g are r.comes s.comes in
-      let cause = some_is r.cause s.cause (sym r.refuses ∙ ap (cause_of c) same ∙ s.refuses) in
-      one_client_fault r.cause d e r.is (subst (λ (x : Cause). IsFaultOf x e) (sym cause) s.is)
+      some_is d e (sym r.refuses ∙ ap (cause_of c) same ∙ s.refuses)
 
   wire_client : (left : List ℕ) (c : ClientState) (f : Frame) (d : WireFault) (e : ClientFault) → AreBytes left → RefusedPacket (WireRefused p frames) left d → RefusedFrame p c left f e → ⊥
   wire_client left c f d e are r s = wire_stops left s.rest f d are r s.comes

@@ -1,16 +1,12 @@
 -- The line of what comes back.
-use Rattle.std.proofs.Common.{◌≡◌, ℕ, ◌≤◌, List, [], ◌++◌, append-nil, length, Bool, true, false, true≢false, Some, Result, Ok, Err, Vec, Global, codes, refl, sym, ap, ap₂, ◌∙◌, subst}
+use Rattle.std.proofs.Common.{◌≡◌, ℕ, List, length, Bool, true, false, true≢false, Some, Result, Ok, Err, Vec, Global, codes, refl, sym, ap, ap₂, ◌∙◌, subst}
 use Rattle.std.specs.Prelude.{◌<◌, ◌↔◌, IfOk, IsTrue, slice_get}
 use Rattle.std.proofs.lemmas.Option.{slice_get_within}
 use Rattle.std.specs.declared.alloc.AllocError.{AllocError}
-use Rattle.tl_schema.specs.Types.{Shape}
 use Rattle.tl_schema.specs.Schemas.{Declared, Declaration}
-use Rattle.tl_types.specs.Seen.{view}
-use Rattle.tl_types.specs.Values.{ValueView, depth}
-use Rattle.tl_types.specs.Spelling.{Spells}
-use Rattle.tl_types.specs.declared.value.Value.{Value}
-use Rattle.tl_types.specs.declared.value.TheConstants.{MAX_LEVELS}
-use Rattle.tl_decode.specs.Decoding.{GivesValue}
+use Rattle.tl_types.specs.Values.{ValueView}
+use Rattle.tl_base.specs.declared.fault.Fault.{Fault}
+use Rattle.tl_base.specs.declared.fault.Fault.TheVariants as frame_fault
 use Rattle.box_events.specs.declared.replies.Frame.{Frame}
 use Rattle.wire_forms.specs.Forms.{constructs, forms}
 use Rattle.wire_forms.specs.declared.numbers.TheConstants.{FRAME_TYPE, PUSH}
@@ -21,6 +17,7 @@ use Rattle.wire_profile.proofs.FormTable.{member_form}
 use Rattle.wire_profile.proofs.ProfileFacts.{is_member}
 use Rattle.box_wire.specs.Kinds.{frames}
 use Rattle.box_wire.specs.Framing.{SpellsWhole, WireRefused}
+use Rattle.box_wire.specs.FramesRead.{ReadsFrame}
 use Rattle.update_sessions.specs.Packed.{MeansFrame}
 use Rattle.outside.specs.Loading.{PeerAs, PeerBy}
 use Rattle.outside.specs.declared.stop.Stop.{Stop}
@@ -29,7 +26,7 @@ use Rattle.schema_files.specs.Lines.{line_text}
 use Rattle.fault_lines.specs.Messages.{wire_line}
 use Rattle.session_commands.specs.Lines.{wrong_reply_line}
 use Rattle.session_commands.specs.Post.{shows, peer, IsReplyTo, OfBody, no_frame, another, reply}
-use Rattle.session_commands.specs.inner.Posting.{GivesLine}
+use Rattle.session_commands.specs.inner.Posting.{GivesLine, TellsNoFrame}
 
 -- ---- what the other end did wrong
 
@@ -44,8 +41,12 @@ peer_gives p n body text stop.LinkFault is tells = tells
 pub wrong_gives : (p : ProfileView) (n : ℕ) (body : List ℕ) (f : Frame) (s : Stop) → MeansFrame p f body → (IsReplyTo n f → ⊥) → PeerAs wrong_reply_line s → GivesLine p n body (Err s)
 wrong_gives p n body f s means not tells = peer_gives p n body wrong_reply_line s (another f means not refl) tells
 
-pub fault_gives : (p : ProfileView) (n : ℕ) (body : List ℕ) (fault : WireFault) (s : Stop) → WireRefused p frames body fault → PeerAs (wire_line (codes "peer") fault) s → GivesLine p n body (Err s)
+fault_gives : (p : ProfileView) (n : ℕ) (body : List ℕ) (fault : WireFault) (s : Stop) → WireRefused p frames body fault → PeerAs (wire_line (codes "peer") fault) s → GivesLine p n body (Err s)
 fault_gives p n body fault s refused tells = peer_gives p n body (wire_line (codes "peer") fault) s (no_frame fault refused refl) tells
+
+pub none_gives : (p : ProfileView) (n : ℕ) (body : List ℕ) (fault : Fault WireFault) (s : Stop) → ReadsFrame p body (Err fault) → TellsNoFrame fault s → GivesLine p n body (Err s)
+none_gives p n body (frame_fault.Refused cause) s reads tells = fault_gives p n body cause s reads.told tells
+none_gives p n body frame_fault.Memory s reads is = subst (λ (t : Stop). GivesLine p n body (Err t)) (sym is) tt
 
 pub peer_told : (text : List ℕ) (line : Result (Vec ℕ Global) AllocError) (s : Stop) → IfOk line (λ l. l.items ≡ text) → PeerBy line s → PeerAs text s
 peer_told text (Ok line) s tells is = subst (PeerAs text) (sym is) tells
@@ -59,9 +60,9 @@ is_reply b P is holds = is.0 holds
 
 -- ---- the reply
 
-pub reply_gives : (p : ProfileView) (n : ℕ) (body : List ℕ) (f : Frame) (line : Vec ℕ Global) → MeansFrame p f body → IsReplyTo n f
-    → ((v : ValueView) → SpellsWhole p frames v body → line.items ≡ line_text p.schema.decls (cell_shape p frames.cell) v) → GivesLine p n body (Ok line)
-reply_gives p n body f line means to is = reply f means.1.v means to means.1.spelled (ap shows (is means.1.v means.1.spelled))
+pub reply_gives : (p : ProfileView) (n : ℕ) (body : List ℕ) (f : Frame) (v : ValueView) (line : Vec ℕ Global) → MeansFrame p f body → IsReplyTo n f
+    → SpellsWhole p frames v body → line.items ≡ line_text p.schema.decls (cell_shape p frames.cell) v → GivesLine p n body (Ok line)
+reply_gives p n body f v line means to spelled is = reply f v means to spelled (ap shows is)
 
 -- ---- the type of frames
 
@@ -94,9 +95,3 @@ head_is p good S k d same at there =
     let h = push_at p good in
     let here : slice_get p.schema.decls (number_at p.indexes PUSH) ≡ Some d = sym (ap₂ (λ (X : Declared) (i : ℕ). slice_get X.decls i) same at) ∙ there in
     ap (λ (x : Declaration). x.head) (some_is d h.d (sym here ∙ h.there)) ∙ h.head
-
--- ---- the value
-
-pub value_is : (S : Declared) (T : Shape) (v : ValueView) (frame given left : List ℕ) (at q : ℕ) (value : Value) → given ≡ frame
-    → ((w : ValueView) (x rest : List ℕ) → given ≡ x ++ rest → Spells S T w x → depth w ≤ MAX_LEVELS → GivesValue (Ok value) (Some left) at q w x rest) → Spells S T v frame → depth v ≤ MAX_LEVELS → view value ≡ v
-value_is S T v frame given left at q value same gives s deep = (gives v frame [] (same ∙ sym (append-nil frame)) s deep).0

@@ -17,7 +17,7 @@ many_frames_line = unplaced_line (codes "peer") (codes "TooManyFrames")
 abbrev pub session_line : SessionFault → Option (List ℕ)
 session_line (session.Packet fault) = packet_line fault
 session_line (session.Wire fault) = Some (wire_line (codes "peer") fault)
-session_line (session.Client fault) = answer_line fault
+session_line (session.Client fault) = Some (answer_line fault)
 session_line session.TooManyFrames = Some many_frames_line
 session_line session.LinkFault = None
 session_line session.Memory = None
@@ -44,7 +44,7 @@ PeerWith line stop.Memory = Unit {0}
 abbrev pub TellsSession : SessionFault → Stop → Type 0
 TellsSession (session.Packet fault) s = PeerWith (packet_line fault) s
 TellsSession (session.Wire fault) s = PeerWith (Some (wire_line (codes "peer") fault)) s
-TellsSession (session.Client fault) s = PeerWith (answer_line fault) s
+TellsSession (session.Client fault) s = PeerWith (Some (answer_line fault)) s
 TellsSession session.TooManyFrames s = PeerWith (Some many_frames_line) s
 TellsSession session.LinkFault s = s ≡ stop.LinkFault
 TellsSession session.Memory s = s ≡ stop.Memory

@@ -1,5 +1,5 @@
 -- A call's result, field by field.
-use Rattle.std.proofs.Common.{◌≡◌, ℕ, ◌+◌, ◌<◌, ◌≤◌, List, [], length, map, drop, get_or, replicate, slice_get, Option, Some, None, Bool, true, false, refl, ap, ap₂, sym, ◌∙◌, subst, true≢false, add-one, drop-cons, Vec, Global, if◌then◌else◌}
+use Rattle.std.proofs.Common.{◌≡◌, ℕ, ◌+◌, ◌<◌, ◌≤◌, List, [], length, map, drop, get_or, replicate, Option, Some, None, Bool, true, false, refl, ap, ap₂, sym, ◌∙◌, subst, true≢false, add-one, drop-cons, Vec, Global}
 use Rattle.std.proofs.lemmas.List.{drop_all}
 use Rattle.tl_schema.specs.Types.{Shape}
 use Rattle.tl_schema.specs.Types as type
@@ -10,13 +10,12 @@ use Rattle.tl_schema.specs.declared.schema.SchemaField.{SchemaField}
 use Rattle.tl_schema.specs.declared.schema.Entry.{Entry}
 use Rattle.tl_types.specs.Values.{ValueView, ValueViews, no_values, value}
 use Rattle.tl_types.specs.Values as view
-use Rattle.tl_types.specs.Fitting.{is_called}
 use Rattle.tl_types.specs.Parts.{fields_in}
 use Rattle.tl_types.specs.Seen.{view, views}
 use Rattle.tl_types.specs.declared.value.Value as own
 use Rattle.tl_types.specs.declared.value.Value.{Value}
 use Rattle.tl_types.proofs.Views.{view-Call}
-use Rattle.tl_calls.specs.Results.{if_function, vars_in, result_in, result_type, results, with_result}
+use Rattle.tl_calls.specs.Results.{function_in, vars_in, result_in, result_type, results, with_result}
 use Rattle.tl_calls.specs.inner.Making.{KnownSoFar}
 
 -- ---- a call
@@ -38,27 +37,22 @@ result_no_call ds (view.list vs) e = refl
 result_no_call ds (view.node i vs) e = refl
 result_no_call ds (view.call i vs) e = absurd (true≢false e)
 
--- a call of no function has the result `call`
-not_called : (ds : List Declaration) (i : ℕ) (vs : ValueViews) (o : Option Declaration) → is_called o ≡ false → closed (results ds (replicate (vars_in (if_function o)) type.call) (fields_in (if_function o)) vs) (result_in (if_function o)) ≡ type.call
-not_called ds i vs None e = refl
-not_called ds i vs (Some d) e = ap (λ (b : Bool). closed (results ds (replicate (vars_in (if b then Some d else None)) type.call) (fields_in (if b then Some d else None)) vs) (result_in (if b then Some d else None))) e
-
-pub result_not_called : (ds : List Declaration) (v : Value) (i : ℕ) (fields : Vec Value Global) → v ≡ own.Call i fields → is_called (slice_get ds i) ≡ false → result_type ds (view v) ≡ type.call
-result_not_called ds v i fields is e = ap (result_type ds) (ap view is ∙ view-Call i fields) ∙ not_called ds i (views fields.items) (slice_get ds i) e
-
 abbrev result_over : List Declaration → Option Declaration → ValueViews → Shape
 result_over ds f vs = closed (results ds (replicate (vars_in f) type.call) (fields_in f) vs) (result_in f)
 
-called_function : (o : Option Declaration) (d : Declaration) → o ≡ Some d → is_called o ≡ true → if_function o ≡ Some d
-called_function o d there e =
-    let function : d.function ≡ true = sym (ap is_called there) ∙ e in ap if_function there ∙ ap (λ (b : Bool). if b then Some d else None) function
+called_in : (ds : List Declaration) (v : Value) (i : ℕ) (fields : Vec Value Global) (f : Option Declaration) → v ≡ own.Call i fields → function_in ds i ≡ f → result_type ds (view v) ≡ result_over ds f (views fields.items)
+called_in ds v i fields f is there = ap (result_type ds) (ap view is ∙ view-Call i fields) ∙ ap (λ (g : Option Declaration). result_over ds g (views fields.items)) there
+
+-- a call of no function has the result `call`
+pub result_not_called : (ds : List Declaration) (v : Value) (i : ℕ) (fields : Vec Value Global) → v ≡ own.Call i fields → function_in ds i ≡ None → result_type ds (view v) ≡ type.call
+result_not_called ds v i fields is none = called_in ds v i fields None is none
 
 -- a call of a function has its declared result, with those of the fields in place of its variables
 pub result_called : (ds : List Declaration) (v : Value) (i : ℕ) (fields : Vec Value Global) (e : Entry) (vs : List Value) (fs : List SchemaField)
-    → v ≡ own.Call i fields → slice_get ds i ≡ Some (declaration e) → is_called (slice_get ds i) ≡ true → vs ≡ fields.items → fs ≡ e.fields.items
+    → v ≡ own.Call i fields → function_in ds i ≡ Some (declaration e) → vs ≡ fields.items → fs ≡ e.fields.items
     → result_type ds (view v) ≡ closed (results ds (replicate e.vars type.call) (map slot fs) (views vs)) (shape e.result)
-result_called ds v i fields e vs fs is there called values slots =
-    ap (result_type ds) (ap view is ∙ view-Call i fields) ∙ ap (λ (f : Option Declaration). result_over ds f (views fields.items)) (called_function (slice_get ds i) (declaration e) there called)
+result_called ds v i fields e vs fs is there values slots =
+    called_in ds v i fields (Some (declaration e)) is there
     ∙ ap₂ (λ (gs : List SchemaField) (ws : List Value). closed (results ds (replicate e.vars type.call) (map slot gs) (views ws)) (shape e.result)) (sym slots) (sym values)
 
 -- ---- fields and values one by one

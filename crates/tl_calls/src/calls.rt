@@ -6,9 +6,9 @@ ghost use Rattle.tl_schema.specs.Schemas.{Declared};
 ghost use Rattle.tl_types.specs.Seen.{view};
 ghost use Rattle.tl_calls.specs.Calling.{Answers, AreOpenIn, LogsCame, LogsSent, Sends, StandsFor, open_at};
 
-use crate::answering::answer_value;
+use crate::answering::whole_value;
 use crate::fault::{AnswerFault, SendFault};
-use crate::result::result_cause;
+use crate::result::{made_type, result_cause};
 use std::alloc::Global;
 use std::collections::BTreeMap;
 use std::marker::Model;
@@ -108,12 +108,11 @@ impl Calls {
         ensures fitting { AreOpenIn schema.now self.new }
         ensures logs { LogsCame schema.now self.old self.new number bytes.now result }
     {
-        // Read for the proof alone: that the schema is sound.
-        let _count = schema.count();
         let Some(call) = self.calls.get(&number) else {
             return Ok(None);
         };
-        let value = match answer_value(alloc, schema, call, bytes) {
+        let of = made_type(call, alloc, schema)?;
+        let value = match whole_value(alloc, schema, &of, bytes) {
             Ok(value) => value,
             Err(fault) => return Err(fault),
         };

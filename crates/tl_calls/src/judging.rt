@@ -7,11 +7,12 @@ ghost use Rattle.tl_types.specs.Seen.{view, views};
 ghost use Rattle.tl_calls.specs.Results.{result_type, results, with_result};
 ghost use Rattle.tl_calls.specs.inner.Judging.{AreTraits, AreTraitsAmong, KnowsTraits, TraitsStand, TraitsStandAmong, plain};
 
+use crate::functions::function_at;
 use crate::places::put;
 use crate::traits::Traits;
 use std::alloc::{AllocError, Global};
 use tl_schema::{Schema, SchemaField, TypeRef};
-use tl_types::{Value, is_called};
+use tl_types::Value;
 
 // A type of one level that takes bytes.
 const PLAIN: Traits = Traits {
@@ -89,10 +90,9 @@ pub fn result_traits(call: &Value, alloc: Global, schema: &Schema) -> Result<Tra
 {
     match call {
         Value::Call { entry, fields } => {
-            if !is_called(schema, *entry) {
+            let Some(entry) = function_at(schema, *entry) else {
                 return Ok(PLAIN);
-            }
-            let entry = schema.entry(*entry);
+            };
             let known = called_traits(fields, alloc, schema, entry.vars, &entry.fields)?;
             Ok(traits_of(&entry.result, schema, &known))
         }

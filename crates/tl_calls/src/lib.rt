@@ -4,6 +4,7 @@
 mod answering;
 mod calls;
 mod fault;
+mod functions;
 mod judging;
 mod laws;
 mod places;

@@ -4,16 +4,17 @@ ghost use Rattle.tl_schema.specs.Formed.{IsFormed};
 ghost use Rattle.tl_schema.specs.Seen.{shape, slot};
 ghost use Rattle.tl_schema.specs.Types.{Shape, call, shapes_of};
 ghost use Rattle.tl_types.specs.Seen.{view, views};
-ghost use Rattle.tl_calls.specs.Results.{TellsResult, TellsCause, result_type, results, with_result};
+ghost use Rattle.tl_calls.specs.Results.{HasResult, TellsCause, TellsResult, result_type, results, with_result};
 ghost use Rattle.tl_calls.specs.inner.Making.{AgreeOn, name_in, names};
 
 use crate::fault::{ResultCause, ResultFault};
+use crate::functions::function_at;
 use crate::judging::result_traits;
 use crate::places::put;
 use std::alloc::{AllocError, Global};
 use tl_plan::MAX_LEVELS;
 use tl_schema::{Schema, SchemaField, TypeRef};
-use tl_types::{Value, close, is_called};
+use tl_types::{Value, close};
 
 /// The type that a call is answered in: the declared result of its function, with the results of the calls in its fields `!X` in place of its variables.
 /// It is judged before it is made.
@@ -21,8 +22,6 @@ pub fn result_of(alloc: Global, schema: &Schema, call: &Value) -> Result<TypeRef
     ensures result { TellsResult schema.now (view call.now) result }
     ensures formed { IfOk result (λ t. IsFormed schema.now (shape t)) }
 {
-    // Read for the proof alone: that the schema is sound.
-    let _count = schema.count();
     let cause = result_cause(alloc, schema, call)?;
     if let Some(cause) = cause {
         return Err(ResultFault::Refused(cause));
@@ -51,14 +50,14 @@ pub fn result_cause(
 /// The result, made. It may be too large for memory where it wasn't judged.
 #[cycle(made_type)]
 pub fn made_type(call: &Value, alloc: Global, schema: &Schema) -> Result<TypeRef, AllocError>
-    ensures { IfOk result (λ t. shape t ≡ result_type schema.now.decls (view call.now)) }
+    ensures made { IfOk result (λ t. shape t ≡ result_type schema.now.decls (view call.now)) }
+    ensures formed { HasResult schema.now (view call.now) → IfOk result (λ t. IsFormed schema.now (shape t)) }
 {
     match call {
         Value::Call { entry, fields } => {
-            if !is_called(schema, *entry) {
+            let Some(entry) = function_at(schema, *entry) else {
                 return Ok(TypeRef::Call);
-            }
-            let entry = schema.entry(*entry);
+            };
             let slots = &entry.fields;
             let known = made_types(fields, alloc, schema, entry.vars, slots, &entry.result)?;
             close(&entry.result, &known, alloc)

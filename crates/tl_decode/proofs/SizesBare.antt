@@ -28,6 +28,7 @@ use Rattle.tl_schema.specs.NotBare as only
 use Rattle.tl_schema.specs.Meanings.{built_in_shape, declared_shape, known_shape, named_shape, bare_shape, meaning, meanings}
 use Rattle.tl_schema.specs.Formed.{IsEmpty}
 use Rattle.tl_schema.proofs.NotBareFirst.{bare_decided}
+use Rattle.tl_schema.proofs.BuiltInNames.{own_is_lower}
 
 -- ---- built-in names
 
@@ -45,16 +46,6 @@ own_chosen n (c ∷ cs) b e = by (bytes_eq n (own_name c)) refl e (own_chosen n 
 
 own_named : (n : List ℕ) (b : BuiltIn) → built_in n ≡ Some b → n ≡ own_name b
 own_named n b e = own_chosen n (Int ∷ Long ∷ Double ∷ Str ∷ Bytes ∷ Vector ∷ Int128 ∷ Int256 ∷ []) b e
-
-own_is_lower : (b : BuiltIn) → is_type_name (own_name b) ≡ false
-own_is_lower Int = refl
-own_is_lower Long = refl
-own_is_lower Double = refl
-own_is_lower Str = refl
-own_is_lower Bytes = refl
-own_is_lower Vector = refl
-own_is_lower Int128 = refl
-own_is_lower Int256 = refl
 
 -- a name that isn't another's
 apart : (n other : List ℕ) → (n ≡ other → ⊥) → bytes_eq n other ≡ false

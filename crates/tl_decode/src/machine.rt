@@ -1,5 +1,5 @@
 //! The steps that need no bytes: values are opened, their parts come in order, and values close.
-ghost use Rattle.std.specs.Prelude.{◌≡◌, ◌<◌, ◌∷◌, ◌++◌, List, [], IfOk, length};
+ghost use Rattle.std.specs.Prelude.{◌<◌, List, IfOk, length};
 ghost use Rattle.tl_decode.specs.inner.Frames.{AreWell, ClosesPart, GoesOn, IsWellFrame, IsWellNext, SettlesFrom, StepsFrom};
 
 use crate::opening::{onward, open};
@@ -69,7 +69,7 @@ fn close(
             Some(of) => open(alloc, plan, frames, of),
             None => Ok(Advance::Goes {
                 next: Next::Part {
-                    top: innermost(frames),
+                    top: frames.take_last(),
                 },
             }),
         },
@@ -104,19 +104,8 @@ pub fn go_on(
         Onward::Item { wanted } => Ok(Found::Wants { wanted }),
         Onward::Value { of } => settle(alloc, plan, frames, Next::Open { of }),
         Onward::Rest => {
-            let top = innermost(frames);
+            let top = frames.take_last();
             settle(alloc, plan, frames, Next::Part { top })
         }
-    }
-}
-
-// The innermost list or record, taken off.
-fn innermost(frames: &mut Vec<StackFrame>) -> StackFrame
-    requires { 0 < length frames.old.items }
-    ensures { frames.old.items ≡ frames.new.items ++ result ∷ [] }
-{
-    match frames.pop() {
-        Some(top) => top,
-        None => unreachable!(),
     }
 }

@@ -129,11 +129,10 @@ impl<'p, 's> Decoder<'p, 's> {
             progress,
             at: _,
         } = self;
-        match progress {
-            Progress::Done { value } => value,
-            Progress::Reading { .. } => unreachable!(),
-            Progress::Stopped { .. } => unreachable!(),
-        }
+        let Progress::Done { value } = progress else {
+            unreachable!()
+        };
+        value
     }
 }
 

@@ -1,6 +1,7 @@
 //! Values that are the whole of bytes in memory.
 ghost use Rattle.std.specs.Prelude.{◌≢◌, ◌<◌, Err};
 ghost use Rattle.tl_numbers.specs.Bytes.{AreBytes};
+ghost use Rattle.tl_schema.specs.CheckedPrograms.{IsSchema};
 ghost use Rattle.tl_schema.specs.Types.{Shape};
 ghost use Rattle.tl_schema.specs.Formed.{IsFormed};
 ghost use Rattle.tl_schema.specs.Seen.{shape};
@@ -56,6 +57,7 @@ pub fn decode_bytes_as(
     requires formed { IsFormed schema.now (shape of.now) }
     ensures whole { ReadsWhole schema.now (shape of.now) bytes.now result }
     ensures bytes { AreBytes bytes.now }
+    ensures sound { IsSchema schema.now }
     ensures unread { result ≢ Err WholeFault.ReadFault }
 {
     let mut from = SliceSource::new(bytes);

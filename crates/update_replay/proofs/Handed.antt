@@ -23,7 +23,9 @@ use Rattle.update_world.specs.Shown.{Shown}
 use Rattle.update_world.specs.Spelled.{AreSent, IsSpelled}
 use Rattle.update_world.specs.Stepping.{Happens}
 use Rattle.update_world.specs.declared.fault.StepFault.{StepFault}
-use Rattle.update_world.specs.declared.fault.StepFault.TheVariants as fault
+use Rattle.update_world.specs.declared.fault.StepFault.TheVariants as step_fault
+use Rattle.tl_base.specs.declared.fault.Fault.{Fault}
+use Rattle.tl_base.specs.declared.fault.Fault.TheVariants as fault
 use Rattle.update_world.specs.declared.outcome.Outcome.{Outcome}
 use Rattle.update_world.specs.declared.sent.SentPacket.{SentPacket}
 use Rattle.update_replay.specs.Endings.{Ending, no_step, not_made, too_long, answer_of, is_cut_short, of_refusal}
@@ -126,14 +128,14 @@ too_late w count at s lines empty many n ss stands number = (empty, past_steps (
 pub no_lines : (w v : Shown) (count at : ℕ) (s : Step) (lines : List ℕ) → lines ≡ [] → MakesAfter w count at s v lines (Err Memory)
 no_lines w v count at s lines empty n ss stands number = (empty, no_memory refl)
 
-not_stepped : (w v : Shown) (n : ℕ) (ss : List Step) (at : ℕ) (s : Step) (e : StepFault) → length ss < MAX_STEPS → Happens w s (run n ss) (Err e) v → IsUnmade n ss at s (of_step at e)
-not_stepped w v n ss at s (fault.NoClient k) few h = impossible (no_client k) few h.0 refl
-not_stepped w v n ss at s (fault.NoPacket k) few h = impossible (no_packet k) few h.0 refl
-not_stepped w v n ss at s (fault.WrongEnd k) few h = impossible (wrong_end k) few h.0 refl
-not_stepped w v n ss at s (fault.PoolFull bytes) few h = impossible (pool_full bytes) few h.0 refl
+not_stepped : (w v : Shown) (n : ℕ) (ss : List Step) (at : ℕ) (s : Step) (e : Fault StepFault) → length ss < MAX_STEPS → Happens w s (run n ss) (Err e) v → IsUnmade n ss at s (of_step at e)
+not_stepped w v n ss at s (fault.Refused (step_fault.NoClient k)) few h = impossible (no_client k) few h.0 refl
+not_stepped w v n ss at s (fault.Refused (step_fault.NoPacket k)) few h = impossible (no_packet k) few h.0 refl
+not_stepped w v n ss at s (fault.Refused (step_fault.WrongEnd k)) few h = impossible (wrong_end k) few h.0 refl
+not_stepped w v n ss at s (fault.Refused (step_fault.PoolFull bytes)) few h = impossible (pool_full bytes) few h.0 refl
 not_stepped w v n ss at s fault.Memory few h = no_memory refl
 
-pub not_happened : (w v : Shown) (count at : ℕ) (s : Step) (e : StepFault) (z : ReplayFault) (lines : List ℕ) → HappensIn w s (Err e) v → count < MAX_STEPS → z ≡ of_step at e → lines ≡ [] → MakesAfter w count at s v lines (Err z)
+pub not_happened : (w v : Shown) (count at : ℕ) (s : Step) (e : Fault StepFault) (z : ReplayFault) (lines : List ℕ) → HappensIn w s (Err e) v → count < MAX_STEPS → z ≡ of_step at e → lines ≡ [] → MakesAfter w count at s v lines (Err z)
 not_happened w v count at s e z lines happens few is empty n ss stands number =
     (empty, subst (IsUnmade n ss at s) (sym is) (not_stepped w v n ss at s e (omega (arith, few, number)) (happens (run n ss) stands.fine stands.stands)))
 

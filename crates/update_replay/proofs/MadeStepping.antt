@@ -26,6 +26,7 @@ use Rattle.update_replay.proofs.Dates.{made_dates_stay_below}
 use Rattle.update_replay.proofs.DrawLaws.{made_steps_are_refused_by_bytes}
 use Rattle.update_world.specs.declared.fault.StepFault.{StepFault}
 use Rattle.update_world.specs.declared.fault.StepFault.TheVariants as step_fault
+use Rattle.tl_base.specs.declared.fault.Fault.TheVariants.{Refused}
 use Rattle.update_world.specs.declared.outcome.Outcome.{Outcome}
 use Rattle.update_world.specs.Shown.{Shown, StandsFor}
 use Rattle.update_world.specs.Spelled.{packet_size}
@@ -76,17 +77,12 @@ only_full shown w n x y s cause st two is_chosen e =
     made_steps_are_refused_by_bytes packet_size w n x cause (ap (λ (cs : List ClientState). length cs) st.clients ∙ two) (refused_so w (made_step (numbers_of w) n x) s y cause is_chosen e)
 
 -- no made step is refused for another cause
-never : (shown new : Shown) (w : World) (n x y : ℕ) (s : Step) (fault : StepFault) → StandsFor shown w → length shown.clients ≡ 2 → Chooses (made_step (numbers_of w) n x) s y → ((bytes : ℕ) → fault ≡ step_fault.PoolFull bytes → ⊥) → (fault ≡ step_fault.Memory → ⊥)
-    → Happens shown s w (Err fault) new → ⊥
-never shown new w n x y s (step_fault.NoClient k) st two chosen full memory h = only_full shown w n x y s (no_client k) st two chosen h.0
-never shown new w n x y s (step_fault.NoPacket m) st two chosen full memory h = only_full shown w n x y s (no_packet m) st two chosen h.0
-never shown new w n x y s (step_fault.WrongEnd m) st two chosen full memory h = only_full shown w n x y s (wrong_end m) st two chosen h.0
-never shown new w n x y s (step_fault.PoolFull bytes) st two chosen full memory h = absurd (full bytes refl)
-never shown new w n x y s step_fault.Memory st two chosen full memory h = absurd (memory refl)
-
-pub never_other : (shown new : Shown) (w : World) (n x y : ℕ) (s : Step) (r : Result Outcome StepFault) (fault : StepFault) → StandsFor shown w → length shown.clients ≡ 2 → Chooses (made_step (numbers_of w) n x) s y
-    → ((bytes : ℕ) → fault ≡ step_fault.PoolFull bytes → ⊥) → (fault ≡ step_fault.Memory → ⊥) → r ≡ Err fault → Happens shown s w r new → ⊥
-never_other shown new w n x y s r fault st two chosen full memory is h = never shown new w n x y s fault st two chosen full memory (subst (λ (q : Result Outcome StepFault). Happens shown s w q new) is h)
+pub never_other : (shown new : Shown) (w : World) (n x y : ℕ) (s : Step) (cause : StepFault) → StandsFor shown w → length shown.clients ≡ 2 → Chooses (made_step (numbers_of w) n x) s y
+    → ((bytes : ℕ) → cause ≡ step_fault.PoolFull bytes → ⊥) → Happens shown s w (Err (Refused cause)) new → ⊥
+never_other shown new w n x y s (step_fault.NoClient k) st two chosen full h = only_full shown w n x y s (no_client k) st two chosen h.0
+never_other shown new w n x y s (step_fault.NoPacket m) st two chosen full h = only_full shown w n x y s (no_packet m) st two chosen h.0
+never_other shown new w n x y s (step_fault.WrongEnd m) st two chosen full h = only_full shown w n x y s (wrong_end m) st two chosen h.0
+never_other shown new w n x y s (step_fault.PoolFull bytes) st two chosen full h = absurd (full bytes refl)
 
 -- ---- all steps
 

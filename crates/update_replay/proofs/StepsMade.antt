@@ -23,7 +23,9 @@ use Rattle.update_world.specs.Shown.{Shown, StandsFor}
 use Rattle.update_world.specs.Spelled.{IsSpelled, packet_size}
 use Rattle.update_world.specs.Stepping.{Happens}
 use Rattle.update_world.specs.declared.fault.StepFault.{StepFault}
-use Rattle.update_world.specs.declared.fault.StepFault.TheVariants as fault
+use Rattle.update_world.specs.declared.fault.StepFault.TheVariants as step_fault
+use Rattle.tl_base.specs.declared.fault.Fault.{Fault}
+use Rattle.tl_base.specs.declared.fault.Fault.TheVariants as fault
 use Rattle.update_world.specs.declared.outcome.Outcome.{Outcome}
 use Rattle.update_world.proofs.Refusals.{named_client}
 use Rattle.update_replay.specs.ReplayParts.{of_line, of_step, FitsInto, HasRun, Makes, StepMade}
@@ -64,7 +66,7 @@ outcome_stands w (step.ChannelTooLong id) v there many = tt
 -- ---- a step that was made
 
 -- what happens in each world that the shown one stands for
-abbrev pub HappensIn : Shown → Step → Result Outcome StepFault → Shown → Type 0
+abbrev pub HappensIn : Shown → Step → Result Outcome (Fault StepFault) → Shown → Type 0
 HappensIn w s r v = (x : World) → w.spoiled ≡ None → StandsFor w x → Happens w s x r v
 
 module _ (w v : Shown) (count : ℕ) (s : Step) (outcome : Outcome) (happens : HappensIn w s (Ok outcome) v) (same : v.profile ≡ w.profile) (many : length v.clients ≡ length w.clients) where
@@ -116,14 +118,14 @@ module _ (w v : Shown) (n : ℕ) (ss : List Step) (stands : StandsAfter w.profil
   as_before : v ≡ w → StandsAfter w.profile n v ss
   as_before e = subst (λ (z : Shown). StandsAfter w.profile n z ss) (sym e) stands
 
-  cause_made : (at : ℕ) (s : Step) (e : StepFault) → length ss < MAX_STEPS → Happens w s (run n ss) (Err e) v → StepMade w.profile n ss at s v [] (Err (of_step at e))
-  cause_made at s (fault.NoClient k) few h = (few, no_client k, h.0, refl, refl, as_before h.1, refl)
-  cause_made at s (fault.NoPacket k) few h = (few, no_packet k, h.0, refl, refl, as_before h.1, refl)
-  cause_made at s (fault.WrongEnd k) few h = (few, wrong_end k, h.0, refl, refl, as_before h.1, refl)
-  cause_made at s (fault.PoolFull bytes) few h = (few, pool_full bytes, h.0, refl, refl, tt, refl)
+  cause_made : (at : ℕ) (s : Step) (e : Fault StepFault) → length ss < MAX_STEPS → Happens w s (run n ss) (Err e) v → StepMade w.profile n ss at s v [] (Err (of_step at e))
+  cause_made at s (fault.Refused (step_fault.NoClient k)) few h = (few, no_client k, h.0, refl, refl, as_before h.1, refl)
+  cause_made at s (fault.Refused (step_fault.NoPacket k)) few h = (few, no_packet k, h.0, refl, refl, as_before h.1, refl)
+  cause_made at s (fault.Refused (step_fault.WrongEnd k)) few h = (few, wrong_end k, h.0, refl, refl, as_before h.1, refl)
+  cause_made at s (fault.Refused (step_fault.PoolFull bytes)) few h = (few, pool_full bytes, h.0, refl, refl, tt, refl)
   cause_made at s fault.Memory few h = inl refl
 
-  pub not_stepped : (count at : ℕ) (s : Step) (e : StepFault) (z : ReplayFault) (a : Option (List ℕ)) → count ≡ length ss → count < MAX_STEPS → HappensIn w s (Err e) v → z ≡ of_step at e → Makes w.profile n ss at s v a a (Err z)
+  pub not_stepped : (count at : ℕ) (s : Step) (e : Fault StepFault) (z : ReplayFault) (a : Option (List ℕ)) → count ≡ length ss → count < MAX_STEPS → HappensIn w s (Err e) v → z ≡ of_step at e → Makes w.profile n ss at s v a a (Err z)
   not_stepped count at s e z a number few happens is =
       subst (λ (y : ReplayFault). Makes w.profile n ss at s v a a (Err y)) (sym is) ([], Appends-nil a, cause_made at s e (omega (arith, few, number)) (happens (run n ss) stands.fine stands.stands))
 
@@ -142,11 +144,8 @@ pub long_never : (at : ℕ) → TooLong at ≡ WriteFault → ⊥
 long_never at is = cc
 
 -- a step's fault is none of writing
-pub step_never : (at : ℕ) (e : StepFault) → of_step at e ≡ WriteFault → ⊥
-step_never at (fault.NoClient k) is = cc
-step_never at (fault.NoPacket k) is = cc
-step_never at (fault.WrongEnd k) is = cc
-step_never at (fault.PoolFull bytes) is = cc
+pub step_never : (at : ℕ) (e : Fault StepFault) → of_step at e ≡ WriteFault → ⊥
+step_never at (fault.Refused cause) is = cc
 step_never at fault.Memory is = cc
 
 -- lines that could not be written failed a replay by their write alone

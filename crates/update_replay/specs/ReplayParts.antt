@@ -15,7 +15,8 @@ use Rattle.update_replay.specs.StepLines.{StepLines}
 use Rattle.update_world.specs.Shown.{Shown}
 use Rattle.update_world.specs.Spelled.{IsSpelled, packet_size}
 use Rattle.update_world.specs.declared.fault.StepFault.{StepFault}
-use Rattle.update_world.specs.declared.fault.StepFault.TheVariants as step
+use Rattle.tl_base.specs.declared.fault.Fault.{Fault}
+use Rattle.tl_base.specs.declared.fault.Fault.TheVariants as fault
 use Rattle.update_replay.specs.Endings.{fault_of, is_cut_short}
 use Rattle.update_replay.specs.Replays.{BeginsStep, Began, StandsAfter, Ends, seen_of, goes_on}
 use Rattle.update_replay.specs.declared.fault.LineFault.{LineFault}
@@ -40,12 +41,9 @@ of_text text.ReadFault = ReadFault
 of_text text.Memory = Memory
 
 -- what a fault of the step at an offset is to it
-abbrev pub of_step : ℕ → StepFault → ReplayFault
-of_step at (step.NoClient n) = NotMade at (step.NoClient n)
-of_step at (step.NoPacket n) = NotMade at (step.NoPacket n)
-of_step at (step.WrongEnd n) = NotMade at (step.WrongEnd n)
-of_step at (step.PoolFull bytes) = NotMade at (step.PoolFull bytes)
-of_step at step.Memory = Memory
+abbrev pub of_step : ℕ → Fault StepFault → ReplayFault
+of_step at (fault.Refused cause) = NotMade at cause
+of_step at fault.Memory = Memory
 
 -- ---- one step read
 

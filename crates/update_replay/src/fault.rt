@@ -42,7 +42,7 @@ pub enum ReplayFault {
     /// The bytes there are no step.
     #[error("no step at {at}: {fault}")]
     Wire { at: u32, fault: WireFault },
-    /// The step there is not made. It holds no `Memory`.
+    /// The step there is not made.
     #[error("no step at {at}: {fault}")]
     Step { at: u32, fault: StepFault },
     /// The step there is one too many, or ends after the journal's limit.

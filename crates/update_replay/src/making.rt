@@ -18,7 +18,7 @@ use crate::summary::summary_of;
 use box_events::Step;
 use box_wire::spell_step;
 use std::alloc::Global;
-use tl_base::{Bytes, Memory};
+use tl_base::{Bytes, Fault, Memory};
 use update_world::{StepFault, World};
 use wire_profile::Profile;
 
@@ -81,11 +81,11 @@ fn make_one(
     let size = spelled_len(alloc, world.profile(), &step)?;
     match world.step(alloc, step) {
         Ok(_) => Ok(size),
-        Err(fault) => match fault {
+        Err(Fault::Refused(cause)) => match cause {
             StepFault::PoolFull { bytes } => Err(MadeFault::PoolFull { at, bytes }),
-            StepFault::Memory => Err(MadeFault::Memory),
             _ => unreachable!(),
         },
+        Err(Fault::Memory) => Err(MadeFault::Memory),
     }
 }
 

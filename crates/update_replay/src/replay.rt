@@ -18,7 +18,7 @@ use crate::lines::{write_end, write_step};
 use box_events::Step;
 use box_wire::{StepReadFault, read_step};
 use std::alloc::Global;
-use tl_base::{Limited, Sink, Source, take_end, take_text};
+use tl_base::{Fault, Limited, Sink, Source, take_end, take_text};
 use tl_types::Cause;
 use update_world::{StepFault, World};
 use wire_profile::{Profile, WireFault};
@@ -107,12 +107,12 @@ fn next_step<S: Source>(
 }
 
 /// Why a replay stops at an offset where a step is not made.
-pub fn step_fault(at: u32, fault: StepFault) -> ReplayFault
+pub fn step_fault(at: u32, fault: Fault<StepFault>) -> ReplayFault
     ensures { result ≡ of_step at fault }
 {
     match fault {
-        StepFault::Memory => ReplayFault::Memory,
-        fault => ReplayFault::Step { at, fault },
+        Fault::Refused(cause) => ReplayFault::Step { at, fault: cause },
+        Fault::Memory => ReplayFault::Memory,
     }
 }
 
@@ -129,6 +129,7 @@ fn make_step<K: Sink>(
     requires run { HasRun world.old count }
     requires dated { IsDated step }
     ensures made { (n : ℕ) (ss : List steps.Step) → StandsAfter world.old.profile n world.old ss → count ≡ length ss → Makes world.old.profile n ss at step world.new (K.state to.old).written (K.state to.new).written result }
+    ensures profile { world.new.profile ≡ world.old.profile }
     ensures goes { OnOk result (HasRun world.new (count + 1)) }
     ensures few { OnOk result (count + 1 ≤ MAX_STEPS) }
     ensures written { WritesOnly (K.state to.old) (K.state to.new) (IsErrOf result ReplayFault.WriteFault) }
@@ -161,6 +162,7 @@ fn make_all<S: Source, K: Sink>(
     ensures reference { window.new.from.ghost_name ≡ window.old.from.ghost_name }
     ensures written { WritesOnly (K.state to.old) (K.state to.new) (IsErrOf result ReplayFault.WriteFault) }
     ensures fits { IfSome (S.state window.old.from.now).left (λ journal. NeverFull world.old.profile (length world.old.clients) (seen_of journal) (goes_on journal) (K.state to.old).written (K.state to.old).sound (K.state to.old).room (IsErrOf result ReplayFault.WriteFault)) }
+    ensures sound { IsProfile world.old.profile }
 {
     let mut steps = 0u32;
     loop {
@@ -201,8 +203,6 @@ fn make_steps<S: Source, K: Sink>(
     ensures fits { IfSome (S.state from.old).left (λ journal. NeverFull world.old.profile (length world.old.clients) (seen_of journal) (goes_on journal) (K.state to.old).written (K.state to.old).sound (K.state to.old).room (IsErrOf result ReplayFault.WriteFault)) }
     ensures sound { IsProfile world.old.profile }
 {
-    // Read for the proof alone: that the schema has the protocol's forms.
-    let _profile = world.profile();
     let mut window = Limited::new(from, MAX_JOURNAL_BYTES as u64);
     make_all(alloc, world, lines, &mut window, to)
 }

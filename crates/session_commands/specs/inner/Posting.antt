@@ -4,6 +4,8 @@ use Rattle.std.specs.declared.alloc.Global.{Global}
 use Rattle.tl_numbers.specs.Bytes.{AreBytes}
 use Rattle.tl_base.specs.Outside.{View, IsThere}
 use Rattle.tl_base.specs.Packets.{IsPacketLength}
+use Rattle.tl_base.specs.declared.fault.Fault.{Fault}
+use Rattle.tl_base.specs.declared.fault.Fault.TheVariants as frame_fault
 use Rattle.box_events.specs.declared.limits.TheConstants.{MAX_FRAME_BYTES}
 use Rattle.box_events.specs.declared.requests.Numbered.{Numbered}
 use Rattle.wire_profile.specs.declared.wire_fault.WireFault.{WireFault}
@@ -11,7 +13,7 @@ use Rattle.wire_profile.specs.Indexes.{ProfileView}
 use Rattle.box_wire.specs.Kinds.{calls}
 use Rattle.box_wire.specs.Framing.{WireRefused}
 use Rattle.update_sessions.specs.Packed.{MeansCall}
-use Rattle.outside.specs.Loading.{Refuses}
+use Rattle.outside.specs.Loading.{PeerAs, Refuses}
 use Rattle.outside.specs.declared.stop.Stop.{Stop}
 use Rattle.outside.specs.declared.stop.Stop.TheVariants as stop
 use Rattle.outside.specs.declared.stop.LoadError.{LoadError}
@@ -61,6 +63,11 @@ pub record HasRoomToCall (address sent : List ℕ) (v : View) : Type 0 where
   pub bytes : length sent ≤ v.room
 
 -- ---- the line of a packet's bytes
+
+-- the other end's fault says why bytes are no frame
+abbrev pub TellsNoFrame : Fault WireFault → Stop → Type 0
+TellsNoFrame (frame_fault.Refused cause) s = PeerAs (wire_line (codes "peer") cause) s
+TellsNoFrame frame_fault.Memory s = s ≡ stop.Memory
 
 abbrev pub GivesLineBy : (Outcome → Type 0) → Result (Vec ℕ Global) Stop → Type 0
 GivesLineBy Of (Ok line) = Of (shows line.items)

@@ -23,16 +23,16 @@ loop-event-preserved g c =
     let i = c.loop-event.invariant in
     let some : sum_by g.E.Counted.count c.loop-event.event-iterator.rest.items ≡ g.E.Counted.count c.in-Some.event + sum_by g.E.Counted.count c.next.new.self.rest.items = ap (sum_by g.E.Counted.count) is ∙ sum_by-cons g.E.Counted.count c.in-Some.event c.next.new.self.rest.items in
     record {
-      all = rw c.in-Ok.ensures.items (simp append_assoc (ap (λ xs. c.loop-event.into.items ++ xs) (sym is) ∙ i.all));
+      all = rw c.push_reserved.ensures.items (simp append_assoc (ap (λ xs. c.loop-event.into.items ++ xs) (sym is) ∙ i.all));
       sum = omega (arith, some, i.sum, c.count-at.ensures.value);
-      len = omega (arith, i.len, c.in-Some.ensures.steps.1, c.in-Ok.ensures.len);
-      capacity = omega (arith, i.capacity, c.in-Ok.ensures.capacity);
+      len = omega (arith, i.len, c.in-Some.ensures.steps.1, c.push_reserved.ensures.len);
+      capacity = omega (arith, i.capacity, c.push_reserved.ensures.capacity);
     }
 
-pub unreachable-requires : goal.unreachable-requires
-unreachable-requires g c =
+pub push_reserved-requires : goal.push_reserved-requires
+push_reserved-requires g c =
     let is = c.in-Some.ensures.steps.0 in
-    omega (arith, c.loop-event.invariant.len, c.loop-event.invariant.capacity, c.in-Some.ensures.steps.1, c.in-Err.ensures.full, c.requires.room)
+    omega (arith, c.loop-event.invariant.len, c.loop-event.invariant.capacity, c.in-Some.ensures.steps.1, c.requires.room)
 
 pub returns : goal.returns
 returns g c =

@@ -1,4 +1,4 @@
-use Rattle.std.proofs.Common.{rules, sym, ◌∙◌, subst, List, map, replicate}
+use Rattle.std.proofs.Common.{rules, sym, subst, List, map, replicate}
 use Rattle.tl_schema.specs.Seen.{slot}
 use Rattle.tl_schema.specs.Types.{Shape, call}
 use Rattle.tl_types.specs.Seen.{view, views}
@@ -9,19 +9,19 @@ use Rattle.tl_calls.proofs.Judged.{plain_any, knows_any, knows_one}
 use Rattle.tl_calls.proofs.ResultSteps.{known_first, next_field, no_value_left, no_field_left, result_called, result_no_call, result_not_called}
 use Rattle.tl_calls.proofs.judging.+result_traits.Goals as goal
 
-pub result_traits-returns-then-not-is_called : goal.result_traits-returns-then-not-is_called
-result_traits-returns-then-not-is_called t c =
-    subst (λ (T : Shape). AreTraits c.args.schema.now T plain) (sym (result_not_called c.args.schema.now.decls c.args.call.now c.in-Call.entry c.in-Call.fields c.in-Call.is (sym c.is_called.ensures ∙ c.if-not-is_called.true)))
+pub result_traits-returns-in_default-function_at : goal.result_traits-returns-in_default-function_at
+result_traits-returns-in_default-function_at t c =
+    subst (λ (T : Shape). AreTraits c.args.schema.now T plain) (sym (result_not_called c.args.schema.now.decls c.args.call.now c.in-Call.entry c.in-Call.fields c.in-Call.is c.in_default-function_at.ensures.none))
     (plain_any c.args.schema.now)
 
 pub result_traits-returns-in_ok-known-in-Call : goal.result_traits-returns-in_ok-known-in-Call
 result_traits-returns-in_ok-known-in-Call t c =
     let schema = c.args.schema.now in
-    let e = c.entry-entry.result.now in
+    let e = c.in-Some.entry.now in
     let vs = c.deref.result.now in
     let fs = c.deref-in-Call.result.now in
     subst (λ (T : Shape). AreTraits schema T c.traits_of.result)
-    (sym (result_called schema.decls c.args.call.now c.in-Call.entry c.in-Call.fields e vs fs c.in-Call.is c.entry-entry.ensures (sym c.is_called.ensures ∙ c.if-not-is_called.false) c.deref.ensures.value c.deref-in-Call.ensures.value))
+    (sym (result_called schema.decls c.args.call.now c.in-Call.entry c.in-Call.fields e vs fs c.in-Call.is c.in-Some.ensures.some c.deref.ensures.value c.deref-in-Call.ensures.value))
     (c.traits_of.ensures (results schema.decls (replicate e.vars call) (map slot fs) (views vs)) (subst (KnowsTraits schema (results schema.decls (replicate e.vars call) (map slot fs) (views vs))) (sym c.deref-in-Call-2.ensures.value) c.in_ok-known-in-Call.ensures))
 
 pub result_traits-returns-in_default : goal.result_traits-returns-in_default

@@ -38,5 +38,5 @@ returns-in-Some-2 c =
 pub returns-in-None-2 : goal.returns-in-None-2
 returns-in-None-2 c =
     let fs = c.args.frames.now in
-    last_taken c.args.plan.now fs.items fs.len c.in-Some.top.now (omega (arith, fs.ok.0)) (omega (arith, c.in-Some.ensures.item.3.0, fs.ok.0)) c.in-Some.ensures.value c.requires.frames c.add.new.top c.innermost.result c.args.value c.innermost.new.frames.items
-    (rw c.in-None-2.is at c.in_ok-of-in-Some.ensures) c.innermost.ensures
+    last_taken c.args.plan.now fs.items fs.len c.in-Some.top.now (omega (arith, fs.ok.0)) (omega (arith, c.in-Some.ensures.item.3.0, fs.ok.0)) c.in-Some.ensures.value c.requires.frames c.add.new.top c.take_last.result c.args.value c.take_last.new.self.items
+    (rw c.in-None-2.is at c.in_ok-of-in-Some.ensures) c.take_last.ensures.items

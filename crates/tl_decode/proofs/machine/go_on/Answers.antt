@@ -8,4 +8,4 @@ returns-in-Value c = λ old v g.
 
 pub returns-in-Rest : goal.returns-in-Rest
 returns-in-Rest c = λ old v g.
-    settles_then c.args.plan.now old c.innermost-top.new.frames.items c.settle-in-Rest.new.frames.items (next.Close v) (next.Part c.innermost-top.result) c.settle-in-Rest.result ((rw c.in-Rest.is at g) c.innermost-top.new.frames.items c.innermost-top.result c.innermost-top.ensures) c.settle-in-Rest.ensures
+    settles_then c.args.plan.now old c.take_last-top.new.self.items c.settle-in-Rest.new.frames.items (next.Close v) (next.Part c.take_last-top.result) c.settle-in-Rest.result ((rw c.in-Rest.is at g) c.take_last-top.new.self.items c.take_last-top.result c.take_last-top.ensures.items) c.settle-in-Rest.ensures

@@ -11,5 +11,6 @@ returns-in-Ok-clause-goes c = λ w st.
 
 pub unreachable-requires : goal.unreachable-requires
 unreachable-requires c =
-    never_other c.args.world.now c.step.new.self c.requires.stands.0 c.args.number c.args.from.now.number c.make_step.new.from.number c.in_ok-step.step c.step.result c.in-Err.fault c.requires.stands.1 c.requires.two
-    (c.in_ok-step.ensures.step c.requires.stands.0 c.requires.stands.1) c.in_default.not-PoolFull c.in_default.not-Memory c.in-Err.is (c.step.ensures.happens c.requires.stands.0 c.requires.fine c.requires.stands.1)
+    never_other c.args.world.now c.step.new.self c.requires.stands.0 c.args.number c.args.from.now.number c.make_step.new.from.number c.in_ok-step.step c.in-Err-Refused.cause c.requires.stands.1 c.requires.two
+    (c.in_ok-step.ensures.step c.requires.stands.0 c.requires.stands.1) c.in_default.not-PoolFull
+    (rw c.in-Err-Refused.field-0-is at c.in-Err-Refused.ensures.happens c.requires.stands.0 c.requires.fine c.requires.stands.1)

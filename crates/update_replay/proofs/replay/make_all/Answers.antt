@@ -1,5 +1,6 @@
-use Rattle.std.proofs.Common.{[], ◌∙◌, Err, ap, arith, length, refl}
+use Rattle.std.proofs.Common.{[], ◌∙◌, Err, ap, arith, length, refl, subst}
 use Rattle.tl_base.proofs.Uses.{used_none}
+use Rattle.wire_profile.specs.Profiles.{IsProfile}
 use Rattle.update_replay.proofs.Replaying.{map_told, new_stands, same_fault, told_all}
 use Rattle.update_replay.proofs.StepsMade.{ok_never}
 use Rattle.update_replay.proofs.Windows.{same_limit}
@@ -12,6 +13,7 @@ loop-next-init g c = record {
   limit = c.requires.limit;
   few = omega arith;
   run = (length c.args.world.now.clients, [], new_stands c.args.world.now c.requires.new, refl);
+  profile = refl;
   windowed = told_all (g.S.Source.state c.args.window.now.from.now).left (λ journal told. windowed_first c.args.world.now journal (g.S.Source.state c.args.window.now.from.now) c.args.window.now.limit c.args.window.now.rest (g.K.Sink.state c.args.to.now).written c.requires.new told c.requires.limit c.requires.rest);
   read = used_none (g.S.Source.state c.args.window.now.from.now) ⊥ (λ f. f);
   reference = refl;
@@ -23,6 +25,7 @@ loop-next-preserved g c = record {
   limit = same_limit c.loop-next.window.limit c.next_step.new.from.limit c.loop-next.window.rest c.next_step.new.from.rest c.loop-next.window.from.ghost_name c.next_step.new.from.from.ghost_name (g.S.Source.state c.loop-next.window.from.now) (g.S.Source.state c.next_step.new.from.from.now) c.next_step.ensures.used.kept ∙ c.loop-next.invariant.limit;
   few = c.in_ok-make_step.ensures.few;
   run = c.in_ok-make_step.ensures.goes;
+  profile = c.in_ok-make_step.ensures.profile ∙ c.loop-next.invariant.profile;
   windowed = map_told (g.S.Source.state c.args.window.now.from.now).left (λ journal wd. windowed_next c.args.world.now.profile (length c.args.world.now.clients) journal c.loop-next.world c.loop-next.window.limit c.loop-next.window.rest c.next_step.new.from.limit c.next_step.new.from.rest c.loop-next.window.from.ghost_name c.next_step.new.from.from.ghost_name c.taken-at.result c.loop-next.steps (g.S.Source.state c.loop-next.window.from.now) (g.S.Source.state c.next_step.new.from.from.now) (g.K.Sink.state c.args.to.now).written (g.K.Sink.state c.loop-next.to).written wd c.taken-at.ensures c.next_step.ensures.used.kept c.profile.result.now c.profile.ensures.value c.make_step.new.world c.in-Read.step (g.K.Sink.state c.make_step.new.to).written (rw c.in-Read.is at c.in_ok-next.ensures.read) c.in_ok-make_step.ensures.made) c.loop-next.invariant.windowed;
   read = read_on c.loop-next.window.limit c.next_step.new.from.limit c.loop-next.window.rest c.next_step.new.from.rest c.loop-next.window.from.ghost_name c.next_step.new.from.from.ghost_name (g.S.Source.state c.args.window.now.from.now) (g.S.Source.state c.loop-next.window.from.now) (g.S.Source.state c.next_step.new.from.from.now) _ _ c.loop-next.invariant.read c.in_ok-next.ensures.used (λ f. absurd f);
   reference = same_reference c.loop-next.window.limit c.next_step.new.from.limit c.loop-next.window.rest c.next_step.new.from.rest c.loop-next.window.from.ghost_name c.next_step.new.from.from.ghost_name (g.S.Source.state c.loop-next.window.from.now) (g.S.Source.state c.next_step.new.from.from.now) c.next_step.ensures.used.kept ∙ c.loop-next.invariant.reference;
@@ -94,3 +97,15 @@ returns-in_err-make_step-clause-written g c = writes_as (g.K.Sink.state c.args.t
 
 pub returns-in_err-make_step-clause-fits : goal.returns-in_err-make_step-clause-fits
 returns-in_err-make_step-clause-fits g c = window_fits (g.S.Source.state c.args.window.now.from.now).left c.args.world.now.profile (length c.args.world.now.clients) c.loop-next.world c.loop-next.window.limit c.loop-next.window.rest c.next_step.new.from.limit c.next_step.new.from.rest c.loop-next.window.from.ghost_name c.next_step.new.from.from.ghost_name c.taken-at.result c.loop-next.steps (g.S.Source.state c.loop-next.window.from.now) (g.S.Source.state c.next_step.new.from.from.now) (g.K.Sink.state c.args.to.now) (g.K.Sink.state c.loop-next.to) (g.K.Sink.state c.make_step.new.to) c.loop-next.invariant.written (g.met.S.Source.are_bytes c.args.window.now.from.now) c.profile.ensures.sound c.loop-next.invariant.windowed c.taken-at.ensures c.next_step.ensures.used.kept c.profile.result.now c.profile.ensures.value c.make_step.new.world c.in-Read.step c.in_err-make_step.field-0.0 c.from_residual-in_err-make_step.result (rw c.in-Read.is at c.in_ok-next.ensures.read) c.in_err-make_step.ensures.made c.from_residual-in_err-make_step.ensures.1 c.in_err-make_step.ensures.fits
+
+pub returns-in_err-next-clause-sound : goal.returns-in_err-next-clause-sound
+returns-in_err-next-clause-sound g c = subst IsProfile c.loop-next.invariant.profile c.profile.ensures.sound
+
+pub returns-in-End-clause-sound : goal.returns-in-End-clause-sound
+returns-in-End-clause-sound g c = subst IsProfile c.loop-next.invariant.profile c.profile.ensures.sound
+
+pub returns-in-CutShort-clause-sound : goal.returns-in-CutShort-clause-sound
+returns-in-CutShort-clause-sound g c = subst IsProfile c.loop-next.invariant.profile c.profile.ensures.sound
+
+pub returns-in_err-make_step-clause-sound : goal.returns-in_err-make_step-clause-sound
+returns-in_err-make_step-clause-sound g c = subst IsProfile c.loop-next.invariant.profile c.profile.ensures.sound

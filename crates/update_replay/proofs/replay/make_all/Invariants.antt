@@ -14,6 +14,7 @@ invariant-loop-next g l =
       limit : l.window.limit ≡ MAX_JOURNAL_BYTES;
       few : l.steps ≤ MAX_STEPS;
       run : HasRun l.world l.steps;
+      profile : l.world.profile ≡ l.fn.world.profile;
       windowed : IfSome (s l.fn.window.from.now).left (λ journal. Windowed l.fn.world.profile (length l.fn.world.clients) journal l.world l.window.limit l.window.rest (s l.window.from.now) l.steps (k l.fn.to).written (k l.to).written);
       read : Used (s l.fn.window.from.now) (s l.window.from.now) ⊥;
       reference : l.window.from.ghost_name ≡ l.fn.window.from.ghost_name;

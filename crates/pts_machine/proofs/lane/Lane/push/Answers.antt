@@ -15,6 +15,9 @@ returns-then-start-self-clause-told g c = let position = ap (λ p. p.state.at) c
 pub returns-then-start-self-clause-step : goal.returns-then-start-self-clause-step
 returns-then-start-self-clause-step g c = hear_is c.args.self.now.state c.args.start c.args.end c.args.event Already c.args.self.now.state (returns-then-start-self-clause-told g c)
 
+pub push_reserved-requires : goal.push_reserved-requires
+push_reserved-requires g c = let room = ap (λ p. p.spare) c.self.view_is in omega (arith, room, c.self.invariant.room, c.requires.room)
+
 pub settle-self-inside-requires-clause-after : goal.settle-self-inside-requires-clause-after
 settle-self-inside-requires-clause-after g c = λ s x e. (c.self.invariant.sound.sized s x e).0
 
@@ -23,12 +26,12 @@ invariant_of-self g c =
     let i = c.self.invariant.sound in
     let e = c.settle-self-inside.ensures in
     let next = next_of c.self.inside.mode c.args.start c.self.inside.at _ c.is_next.ensures c.if-is_next.true in
-    let items = c.in-Ok.ensures.items in
-    let t : LaneState g.row.E.Denot = record { restart = c.self.inside.restart; events = c.push.new.self.items; at = c.args.end; held = c.self.inside.gap.held; mode = c.self.inside.mode } in
+    let items = c.push_reserved.ensures.items in
+    let t : LaneState g.row.E.Denot = record { restart = c.self.inside.restart; events = c.push_reserved.new.self.items; at = c.args.end; held = c.self.inside.gap.held; mode = c.self.inside.mode } in
     record {
       sound = subst (IsSound g.E.Counted.count) (sym (settled t _ _ _ e.events e.reach e.held))
           (sound_settle g.E.Counted.count t (record { sized = i.sized; position = rw items (omega (arith, next.1, i.position, c.requires.counts, sum_by_push g.E.Counted.count c.self.inside.events.items c.args.event)); limit = c.requires.limit }));
-      room = (let room = ap (λ p. p.spare) c.self.view_is in omega (arith, room, e.sum, e.capacity, c.self.invariant.room, c.in-Ok.ensures.len, c.in-Ok.ensures.capacity, c.requires.room));
+      room = (let room = ap (λ p. p.spare) c.self.view_is in omega (arith, room, e.sum, e.capacity, c.self.invariant.room, c.push_reserved.ensures.len, c.push_reserved.ensures.capacity, c.requires.room));
       gap = (let room = ap (λ p. p.spare) c.self.view_is in omega (arith, room, e.spare, c.self.invariant.gap, c.requires.room));
     }
 
@@ -36,12 +39,12 @@ pub returns-then-is_next-clause-told : goal.returns-then-is_next-clause-told
 returns-then-is_next-clause-told g c =
     let e = c.settle-self-inside.ensures in
     let next = next_of c.self.inside.mode c.args.start c.self.inside.at _ c.is_next.ensures c.if-is_next.true in
-    let t : LaneState g.row.E.Denot = record { restart = c.self.inside.restart; events = c.push.new.self.items; at = c.args.end; held = c.self.inside.gap.held; mode = c.self.inside.mode } in
+    let t : LaneState g.row.E.Denot = record { restart = c.self.inside.restart; events = c.push_reserved.new.self.items; at = c.args.end; held = c.self.inside.gap.held; mode = c.self.inside.mode } in
     let u : LaneState g.row.E.Denot = record { restart = c.self.inside.restart; events = c.settle-self-inside.new.events.items; at = c.settle-self-inside.result; held = c.settle-self-inside.new.gap.held; mode = c.self.inside.mode } in
     hears_as (state_of c.self.inside) c.args.self.now.state c.args.start c.args.end c.args.event (Applied c.settle-self-inside.result) u (ap (λ p. p.state) c.self.view_is) (
       never_past (state_of c.self.inside) c.args.start c.self.invariant.sound.ahead next,
       next,
-      settled t _ _ _ e.events e.reach e.held ∙ ap (λ xs. settle (record t { events = xs })) c.in-Ok.ensures.items,
+      settled t _ _ _ e.events e.reach e.held ∙ ap (λ xs. settle (record t { events = xs })) c.push_reserved.ensures.items,
       refl,
     )
 
