@@ -19,8 +19,8 @@ use Rattle.outside.specs.Steps.{Step, Turn, again, leave, Calls, Ends}
 use Rattle.outside.proofs.Causing.{cause_print, cause_run, cause_tell, cause_then, explains_first, explains_last, keeps_call, keeps_end, keeps_loop, keeps_print, keeps_tell, keeps_then, keeps_write, told_status, unwritten}
 use Rattle.outside.proofs.TakenPackets.{broken_packet, keeps_packet}
 use Rattle.schema_files.specs.Lines.{input_line}
-use Rattle.codec_rooms.specs.Laws.{IsOf, ReadsFiles}
-use Rattle.codec_rooms.proofs.FileLaws.{Touches, reads_files, touches}
+use Rattle.codec_rooms.specs.Laws.{IsOf}
+use Rattle.codec_rooms.proofs.FileLaws.{Touches, touches}
 use Rattle.codec_rooms.proofs.TypedLaws.{cause_of_file, keeps_named}
 use Rattle.call_commands.specs.CallsWork.{SoFar, so_far, ends_by, Last, TellsRefusal, after_line, OfPacket, too_long, no_packet, told, after_packet, TellsNext, TellsPackets, after_opening, OfInput, tells_calls}
 use Rattle.call_commands.specs.Commands.{calls}
@@ -133,6 +133,3 @@ module _ (D : Declared) where
 
 pub calls_has_cause : (schema input : List ℕ) → HasCause (RunsIn to_output (tells_calls schema input))
 calls_has_cause schema input = cause_run (tells_calls schema input) (cause_of_file Schema refl (codes "schema") (OfInput input) schema (λ D. cause_input D input))
-
-pub calls_reads : (schema input : List ℕ) → ReadsFiles (calls schema input)
-calls_reads schema input = reads_files (calls schema input) (calls_touches schema input) (calls_has_cause schema input)

@@ -14,4 +14,3 @@ pub mod NextPackets
 pub mod Going
 pub mod Taking
 pub mod CallingLaws
-pub mod FilesTold

@@ -4,4 +4,3 @@ pub mod Answering
 pub mod inner
 pub mod CallsWork
 pub mod Commands
-pub mod CallsLaws

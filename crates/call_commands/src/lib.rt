@@ -7,7 +7,6 @@ mod limits;
 mod lines;
 mod packets;
 mod refusals;
-mod runs;
 mod turns;
 mod words;
 
@@ -16,4 +15,3 @@ pub use laws::{each_file_has_one_answer, each_log_is_given, files_have_one_answe
 pub use limits::MAX_PACKET_END;
 pub use packets::tell_packet;
 pub use refusals::unpacked;
-pub use runs::{calls_ends, calls_reads};

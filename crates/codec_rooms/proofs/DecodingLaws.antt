@@ -1,8 +1,5 @@
 -- Laws of `decode`.
-use Rattle.std.proofs.Common.{◌≡◌, ℕ, List, [], ◌∷◌, ◌++◌, Bool, true, false, Option, Some, None, Ok, Err, codes, refl, sym, ap, ◌∙◌, subst, inl, inr}
-use Rattle.std.specs.Prelude.{IfSome}
-use Rattle.tl_base.proofs.Parts.{left_back}
-use Rattle.tl_base.specs.Outside.{HasFile, left_of}
+use Rattle.std.proofs.Common.{◌≡◌, ℕ, List, [], ◌∷◌, ◌++◌, Bool, true, false, Option, Some, None, Ok, Err, codes, refl, sym, ap, subst, inl, inr}
 use Rattle.tl_base.specs.declared.counts.Kind.TheVariants as kinds
 use Rattle.tl_base.specs.declared.host.Slot.TheVariants.{Schema, Input}
 use Rattle.tl_schema.specs.Schemas.{Declared}
@@ -12,24 +9,18 @@ use Rattle.tl_decode.specs.declared.whole.WholeFault.TheVariants as whole
 use Rattle.outside.specs.Answer.{Answer, done, refused}
 use Rattle.outside.specs.declared.status.Status.{Status}
 use Rattle.outside.specs.declared.status.Status.TheVariants as status
-use Rattle.outside.specs.Events.{Event, Outside, opened}
+use Rattle.outside.specs.Events.{Event, opened}
 use Rattle.outside.specs.Laws.{Happened, Keeps, IsFailure, Explains, HasCause}
 use Rattle.outside.specs.Runs.{Runs}
-use Rattle.outside.specs.Steps.{Turn, again, leave, Calls, Then}
-use Rattle.outside.proofs.Causing.{happened_last, keeps_then, keeps_call, keeps_tell, keeps_print, cause_then, cause_print, cause_tell, cause_run, explains_last, told_status}
-use Rattle.outside.specs.Fits.{Fits}
-use Rattle.outside.proofs.Sparing.{IsReading}
+use Rattle.outside.specs.Steps.{Turn, again, leave, Calls}
+use Rattle.outside.proofs.Causing.{happened_last, keeps_then, keeps_call, keeps_tell, keeps_print, cause_then, cause_print, cause_tell, cause_run, explains_last}
 use Rattle.schema_files.specs.Lines.{cause_text, input_line, line_text}
-use Rattle.codec_commands.specs.Decode.{OfInput}
-use Rattle.codec_commands.specs.Typed.{OfType}
-use Rattle.codec_commands.proofs.OneDecode.{one_decode}
 use Rattle.codec_rooms.specs.Commands.{decode}
 use Rattle.codec_rooms.specs.Decode.{Verdict, Decides, faulty, longer, HasVerdict, cut_off, is_value, ReadsOn, more, decided, at_end, failed, ReadsValue, at_once, reads, answer_of, printed, after_reading, after_opening, OfBytes, decodes, decodes_by}
-use Rattle.codec_rooms.specs.Laws.{Named, IsRead, IsOf, ReadsFiles, EndsFiles}
-use Rattle.codec_rooms.proofs.FileLaws.{Touches, ComesTo, unread, Comes, comes_as, comes_print, comes_then, touches, reads_files, ends_files}
+use Rattle.codec_rooms.specs.Laws.{Named, IsRead, IsOf}
+use Rattle.codec_rooms.proofs.FileLaws.{Touches, touches}
 use Rattle.codec_rooms.proofs.InputRead.{keeps_value}
-use Rattle.codec_rooms.proofs.InputLeft.{left_is, value_meant}
-use Rattle.codec_rooms.proofs.TypedFiles.{comes_of_file, comes_word}
+use Rattle.codec_rooms.proofs.InputLeft.{left_is}
 use Rattle.codec_rooms.proofs.TypedLaws.{keeps_word, keeps_named, cause_of_file, cause_word}
 
 -- ---- what it does
@@ -105,32 +96,6 @@ module _ (D : Declared) (T : Shape) where
   cause_bytes : (input : List ℕ) → HasCause (OfBytes input D T)
   cause_bytes input = cause_then (Calls (opened Input input)) (after_opening D T) (cause_opened input)
 
--- ---- over files
-
-comes_printed : (Is : Answer → Type 0) (o : Option Answer) (t : List Event) (s : Status) → IfSome o Is → printed o t s → ComesTo Is t s
-comes_printed Is (Some a) t s is h = comes_print Is a t s is h
-comes_printed Is None t s is h = unread (told_status _ status.ReadFault t s h)
-
-module _ (input : List ℕ) (D : Declared) (T : Shape) where
-  comes_value : Comes (λ s. OfInput D T (left_of Input s.view)) (Then (ReadsValue D T) (after_reading D T))
-  comes_value =
-      comes_then (ReadsValue D T) (after_reading D T) (λ s. OfInput D T (left_of Input s.view)) (keeps_value D T IsReading (λ _. tt) tt tt)
-      (λ r t u end s m n read h f g. comes_printed (OfInput D T (left_of Input s.view)) (answer_of D T r) u end (value_meant D T t r s m read f) h)
-
-  abbrev OfOpened : Outside → Answer → Type 0
-  OfOpened s a = (bytes : List ℕ) × HasFile s.view.files input bytes × OfInput D T bytes a
-
-  comes_opened : (ok : Bool) (t u : List Event) (end : Status) (s m n : Outside) → t ≡ opened Input input ok ∷ [] → after_opening D T ok u end → Fits t s m → Fits u m n → ComesTo (OfOpened s) u end
-  comes_opened true t u end s m n is h f g =
-      let o = subst (λ (l : List Event). Fits l s m) is f in
-      let left : left_of Input m.view ≡ o.1.0.0 = ap (λ (x : Outside). left_of Input x.view) o.2 ∙ (ap (left_of Input) o.1.0.2 ∙ left_back Input o.1.0.0 s.view) in
-      let into : (a : Answer) → OfInput D T (left_of Input m.view) a → OfOpened s a = λ a tells. (o.1.0.0, o.1.0.1, subst (λ (l : List ℕ). OfInput D T l a) left tells) in
-      comes_as (OfInput D T (left_of Input m.view)) (OfOpened s) into u end (comes_value u end m n h g)
-  comes_opened false t u end s m n is h f g = unread (told_status _ status.ReadFault u end h)
-
-  comes_bytes : Comes OfOpened (OfBytes input D T)
-  comes_bytes = comes_then (Calls (opened Input input)) (after_opening D T) OfOpened (keeps_call IsReading (opened Input input) (λ _. tt)) comes_opened
-
 -- ---- the laws
 
 module _ (schema type input : List ℕ) where
@@ -140,14 +105,3 @@ module _ (schema type input : List ℕ) where
   pub decode_has_cause : HasCause (Runs (decodes schema type input))
   decode_has_cause =
       cause_run (decodes schema type input) (cause_of_file Schema refl (codes "schema") (decodes_by type input) schema (cause_word (OfBytes input) type (λ D T. cause_bytes D T input)))
-
-  comes : Comes (λ s. (decode schema type input).answers s.view.files) (decodes schema type input)
-  comes =
-      comes_of_file (codes "schema") (decodes_by type input) (λ S files. OfType OfInput S type input files)
-      (comes_word (OfBytes input) OfInput input (comes_bytes input) type) Schema schema
-
-  pub decode_reads : ReadsFiles (decode schema type input)
-  decode_reads = reads_files (decode schema type input) decode_touches decode_has_cause
-
-  pub decode_ends : EndsFiles (decode schema type input)
-  decode_ends = ends_files (decode schema type input) comes (λ files. one_decode files schema type input) decode_reads

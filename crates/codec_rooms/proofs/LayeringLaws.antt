@@ -3,21 +3,16 @@ use Rattle.std.proofs.Common.{ℕ, List, [], codes, refl, sym, subst, inl, inr}
 use Rattle.tl_base.specs.declared.host.Slot.TheVariants.{Schema, Input}
 use Rattle.tl_schema.specs.Schemas.{Declared}
 use Rattle.tl_schema.specs.Types.{Shape}
-use Rattle.outside.specs.Answer.{Answer, refused}
+use Rattle.outside.specs.Answer.{Answer}
 use Rattle.outside.specs.Laws.{Keeps, Explains, HasCause}
 use Rattle.outside.specs.Runs.{Runs}
 use Rattle.outside.proofs.Causing.{keeps_answer, cause_answer, cause_run}
-use Rattle.schema_files.specs.Answering.{OfSchemaFile}
-use Rattle.schema_files.specs.Lines.{type_line}
-use Rattle.codec_commands.specs.Layers.{OfLayers, broken, whole, OfType}
-use Rattle.codec_commands.specs.Layers as answer
-use Rattle.codec_commands.proofs.OneLayers.{one_layers}
+use Rattle.codec_commands.specs.Layers.{OfLayers, broken, whole}
 use Rattle.codec_rooms.specs.Commands.{layers}
 use Rattle.codec_rooms.specs.Layers.{OfNew, compared, compares}
-use Rattle.codec_rooms.specs.Laws.{Named, IsOf, ReadsFiles, EndsFiles}
-use Rattle.codec_rooms.specs.Typed.{OfAsked, no_type, typed}
-use Rattle.codec_rooms.proofs.FileLaws.{Touches, Comes, comes_as, comes_print, touches, reads_files, ends_files}
-use Rattle.codec_rooms.proofs.TypedFiles.{comes_answer, comes_of_file}
+use Rattle.codec_rooms.specs.Laws.{Named, IsOf}
+use Rattle.codec_rooms.specs.Typed.{OfAsked}
+use Rattle.codec_rooms.proofs.FileLaws.{Touches, touches}
 use Rattle.codec_rooms.proofs.TypedLaws.{keeps_asked, keeps_named, cause_asked, cause_of_file}
 
 plain : (old new : Declared) (T : Shape) (a : Answer) → OfLayers old new T a → Explains a.status []
@@ -42,18 +37,3 @@ module _ (old new type : List ℕ) where
       cause_run (compares old new type)
       (cause_of_file Schema refl (codes "schema") (OfAsked (OfNew new) type) old
       (cause_asked (OfNew new) type (λ schema T. cause_of_file Input refl (codes "new") (compared schema T) new (λ other. cause_answer (OfLayers schema other T) (plain schema other T)))))
-
-  comes_old : (schema : Declared) → Comes (λ s. OfType schema type new s.view.files) (OfAsked (OfNew new) type schema)
-  comes_old schema t status s n (no_type cause r h) f = comes_print (OfType schema type new s.view.files) (refused (type_line cause)) t status (answer.no_type cause r refl) h
-  comes_old schema t status s n (typed T is h) f =
-      comes_as (OfSchemaFile (codes "new") (λ S. OfLayers schema S T) s.view.files new) (OfType schema type new s.view.files) (λ a tells. answer.typed T is tells) t status
-      (comes_of_file (codes "new") (compared schema T) (λ S files. OfLayers schema S T) (λ S u end m k g i. comes_answer (OfLayers schema S T) u end g) Input new t status s n h f)
-
-  comes : Comes (λ s. (layers old new type).answers s.view.files) (compares old new type)
-  comes = comes_of_file (codes "schema") (OfAsked (OfNew new) type) (λ S files. OfType S type new files) comes_old Schema old
-
-  pub layers_reads : ReadsFiles (layers old new type)
-  layers_reads = reads_files (layers old new type) layers_touches layers_has_cause
-
-  pub layers_ends : EndsFiles (layers old new type)
-  layers_ends = ends_files (layers old new type) comes (λ files. one_layers files old new type) layers_reads

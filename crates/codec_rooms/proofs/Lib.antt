@@ -3,7 +3,6 @@ pub mod Checking
 pub mod Typing
 mod Encoding
 pub mod TypedLaws
-mod RefusedLonger
 pub mod FileLaws
 pub mod TypedFiles
 pub mod EncodingLaws

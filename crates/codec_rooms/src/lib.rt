@@ -5,7 +5,6 @@ mod check;
 mod decode;
 mod encode;
 mod feeding;
-mod laws;
 mod layers;
 mod output;
 mod typed;
@@ -13,8 +12,4 @@ mod typed;
 pub use check::{check_schema, run_check};
 pub use decode::{decode_input, run_decode};
 pub use encode::{encode_input, run_encode};
-pub use laws::{
-    check_ends, check_reads, decode_ends, decode_reads, encode_ends, encode_reads, layers_ends,
-    layers_reads,
-};
 pub use layers::{compare_schemas, run_layers};

@@ -20,7 +20,7 @@ use Rattle.commands.specs.Work.{RunsRequest, RunsWords, no_request, requested, n
 use Rattle.commands.proofs.Rows.{one_request}
 use Rattle.run_laws.specs.Answers.{usage}
 use Rattle.run_laws.specs.Answers as answers
-use Rattle.run_laws.specs.Ended.{Ended, IsShown, LinkFailed, ReadFailed, RunsJob, Stops, WriteFailed}
+use Rattle.run_laws.specs.Ended.{Ended, IsShown, LinkFailed, RunsJob, StopsIn}
 use Rattle.run_laws.specs.Ended as job
 use Rattle.run_laws.specs.Requests.{job_of}
 use Rattle.run_laws.specs.Runs.{AnswerFits, Ends, Keeps, MayAnswer, StopsAfter, WordsAreSound, WordsEnd, WordsKeep, answered, read_failed, read_failed_later, write_failed, link_failed, out_of_memory, out_of_memory_later, out_of_memory_told}
@@ -41,7 +41,7 @@ use Rattle.run_laws.proofs.serving.ServeRuns as served
 
 -- ---- a request's run is its job's
 
-runs_job : (r : RequestText) → RunsJob (job_of r) (outs_of r) (work_of r)
+pub runs_job : (r : RequestText) → RunsJob (job_of r) (outs_of r) (work_of r)
 runs_job (check schema) = checked.check_runs schema
 runs_job (decode schema type input) = decoded.decode_runs schema type input
 runs_job (encode schema type input) = encoded.encode_runs schema type input
@@ -53,15 +53,15 @@ runs_job (client schema address state channels) = recovered.client_runs schema a
 runs_job (layers old new type) = compared.layers_runs old new type
 runs_job (calls schema input) = called.calls_runs schema input
 
-module _ (words : List (List ℕ)) (r : RequestText) (asks : AsksFor words r) (R W L : Type 0) (status : Status) (v w : View) where
-  may : (a : Answer) → jobs.MayAnswer (job_of r) L v a → MayAnswer words L v a
+module _ (words : List (List ℕ)) (r : RequestText) (asks : AsksFor words r) (t : List Event) (status : Status) (v w : View) where
+  may : (a : Answer) → jobs.MayAnswer (job_of r) (LinkFailed t) v a → MayAnswer words (LinkFailed t) v a
   may a (inl is) = inl (answers.requested r asks is)
   may a (inr (failed, broken)) = inr (failed, r, asks, broken)
 
-  abbrev stops : (line : List ℕ) → Stops (job_of r) W L line v w → StopsAfter words W L line v w
+  abbrev stops : (line : List ℕ) → StopsIn (job_of r) t line v w → StopsAfter words t line v w
   stops line h = record { request = r; asked = asks; stops = h }
 
-  ends_as : Ended (job_of r) R W L status v w → Ends words R W L status v w
+  ends_as : Ended (job_of r) t status v w → Ends words t status v w
   ends_as (job.answered a is ends output leaves tells) = answered a (may a is) ends output leaves tells
   ends_as (job.read_failed rose is output tells) = read_failed (r, asks) rose is output tells
   ends_as (job.read_failed_later rose is h on) = read_failed_later rose is (stops _ h) on
@@ -75,26 +75,26 @@ module _ (words : List (List ℕ)) (r : RequestText) (asks : AsksFor words r) (R
 
 module _ (words : List (List ℕ)) (t : List Event) (status : Status) (s n : Outside) (shown : IsShown s.view) (f : Fits t s n) where
   abbrev Ending : Type 0
-  Ending = Ends words (ReadFailed t) (WriteFailed t) (LinkFailed t) status s.view n.view
+  Ending = Ends words t status s.view n.view
 
   request_ends : (r : RequestText) → AsksFor words r → RunsRequest r t status → Ending
-  request_ends r asks h = ends_as words r asks (ReadFailed t) (WriteFailed t) (LinkFailed t) status s.view n.view ((runs_job r).ends t status s n shown h f)
+  request_ends r asks h = ends_as words r asks t status s.view n.view ((runs_job r).ends t status s n shown h f)
 
 -- ---- a line alone
 
 -- words of no request have the usage line for an answer
-usage_ends : (words : List (List ℕ)) (t : List Event) (status : Status) (s n : Outside) → AsksNothing words → pieces.Tells usage_line Usage t status → Fits t s n → Ends words (ReadFailed t) (WriteFailed t) (LinkFailed t) status s.view n.view
+usage_ends : (words : List (List ℕ)) (t : List Event) (status : Status) (s n : Outside) → AsksNothing words → pieces.Tells usage_line Usage t status → Fits t s n → Ends words t status s.view n.view
 usage_ends words t status s n none h f =
     let only = only_errors t s n (telling usage_line Usage status t h) f in
     answered usage (inl (answers.no_request none refl)) (told_status usage_line Usage t status h) (output_kept s.view n.view only ∙ sym (append-nil s.view.written.output)) (leaves_all Usage [] usage_line s.view n.view only) (tells_line usage_line Usage status t s n h f)
 
-memory_ends : (words : List (List ℕ)) (t : List Event) (status : Status) (s n : Outside) → pieces.Tells memory_line Memory t status → Fits t s n → Ends words (ReadFailed t) (WriteFailed t) (LinkFailed t) status s.view n.view
+memory_ends : (words : List (List ℕ)) (t : List Event) (status : Status) (s n : Outside) → pieces.Tells memory_line Memory t status → Fits t s n → Ends words t status s.view n.view
 memory_ends words t status s n h f =
     out_of_memory (told_status memory_line Memory t status h) (output_kept s.view n.view (only_errors t s n (telling memory_line Memory status t h) f)) (tells_line memory_line Memory status t s n h f)
 
 -- ---- the laws
 
-ended : (words : List (List ℕ)) (t : List Event) (status : Status) (s n : Outside) → IsShown s.view → Fits t s n → RunsWords words t status → Ends words (ReadFailed t) (WriteFailed t) (LinkFailed t) status s.view n.view
+ended : (words : List (List ℕ)) (t : List Event) (status : Status) (s n : Outside) → IsShown s.view → Fits t s n → RunsWords words t status → Ends words t status s.view n.view
 ended words t status s n shown f (no_request none h) = usage_ends words t status s n none h f
 ended words t status s n shown f (requested r asks h) = request_ends words t status s n shown f r asks h
 ended words t status s n shown f (no_memory h) = memory_ends words t status s n h f

@@ -5,6 +5,8 @@ pub mod files
 pub mod OneAnswer
 pub mod AnAnswer
 pub mod Told
+pub mod Untold
+pub mod Standing
 pub mod Touching
 pub mod Kept
 pub mod Recovering

@@ -1,5 +1,5 @@
 -- A line that is told, over an outside that shows what it holds.
-use Rattle.std.proofs.Common.{◌≡◌, ℕ, List, [], ◌∷◌, ◌++◌, map, append-nil, append_assoc, Bool, true, false, sym, ap, ◌∙◌, subst, inl, inr}
+use Rattle.std.proofs.Common.{◌≡◌, ℕ, List, [], ◌∷◌, ◌++◌, append-nil, sym, ap, ◌∙◌, subst}
 use Rattle.tl_base.specs.Outside.{View}
 use Rattle.tl_base.specs.declared.host.Out.{Out}
 use Rattle.tl_base.specs.declared.host.Out.TheVariants.{Errors}
@@ -10,11 +10,11 @@ use Rattle.outside.specs.Telling.{Tells}
 use Rattle.outside.specs.Events.{Event, Outside, opened, took, ended, read_failed, created, put, write_failed, listened, connected, accepted, told}
 use Rattle.outside.specs.Laws.{Throughout}
 use Rattle.outside.specs.Pieces as pieces
-use Rattle.outside.specs.Pieces.{InPieces, joined, Writes}
-use Rattle.outside.proofs.Causing.{unwritten}
+use Rattle.outside.specs.Pieces.{Writes}
 use Rattle.outside.specs.Fits.{Fits, Happens}
-use Rattle.run_laws.specs.Ended.{WriteFailed}
+use Rattle.run_laws.specs.Ended.{ErrorsFailed}
 use Rattle.run_laws.specs.Touched.{IsTelling}
+use Rattle.run_laws.proofs.serving.Lines.{errors_told}
 
 -- ---- nothing else changes
 
@@ -48,30 +48,10 @@ only_errors (e ∷ t) s n all f = errors_over s.view f.0.view n.view (event_erro
 
 -- ---- the line
 
-put_errors_more : (bytes : List (List ℕ)) (last : List Event) (s n : Outside) → Fits (map (put Errors) bytes ++ last) s n → (m : Outside) × (m.view.written.errors ≡ s.view.written.errors ++ joined bytes) × Fits last m n
-put_errors_more [] last s n f = (s, sym (append-nil s.view.written.errors), f)
-put_errors_more (p ∷ bytes) last s n f =
-    let r = put_errors_more bytes last f.0 n f.2 in
-    let one : f.0.view.written.errors ≡ s.view.written.errors ++ p = ap (λ (x : View). x.written.errors) f.1.0 in
-    (r.0, r.1 ∙ (ap (λ (l : List ℕ). l ++ joined bytes) one ∙ append_assoc s.view.written.errors p (joined bytes)), r.2)
-
-in_errors : (bytes : List ℕ) (last t : List Event) (s n : Outside) → InPieces (put Errors) bytes last t → Fits t s n → (m : Outside) × (m.view.written.errors ≡ s.view.written.errors ++ bytes) × Fits last m n
-in_errors bytes last t s n q f =
-    let r = put_errors_more q.pieces last s n (subst (λ (l : List Event). Fits l s n) q.events f) in
-    (r.0, r.1 ∙ ap (λ (l : List ℕ). s.view.written.errors ++ l) q.join, r.2)
-
--- written whole, or a prefix of it where a write failed
-line_told : (line : List ℕ) (ok : Bool) (t : List Event) (s n : Outside) → Writes Errors line t ok → Fits t s n → Tells (WriteFailed t) line s.view n.view
-line_told line true t s n h f = let r = in_errors line [] t s n h f in inl (ap (λ (o : Outside). o.view.written.errors) r.2 ∙ r.1)
-line_told line false t s n h f =
-    let r = in_errors h.0 (write_failed Errors ∷ []) t s n h.2 f in
-    let same = ap (λ (o : Outside). o.view.written.errors) r.2.2 ∙ ap (λ (x : View). x.written.errors) r.2.1.0 in
-    inr (unwritten Errors line t h, (h.0, h.1, h.3, same ∙ r.1))
-
-pub tells_line : {A : Type 0} (line : List ℕ) (status given : A) (t : List Event) (s n : Outside) → pieces.Tells line status t given → Fits t s n → Tells (WriteFailed t) line s.view n.view
+pub tells_line : {A : Type 0} (line : List ℕ) (status given : A) (t : List Event) (s n : Outside) → pieces.Tells line status t given → Fits t s n → Tells (ErrorsFailed t) line s.view n.view
 tells_line line status given t s n h f =
     let is : t ≡ h.first = h.splits ∙ (ap (λ (l : List Event). h.first ++ l) h.goes.0 ∙ append-nil h.first) in
-    line_told line h.between t s n (subst (λ (l : List Event). Writes Errors line l h.between) (sym is) h.does) f
+    errors_told line t h.between s n (subst (λ (l : List Event). Writes Errors line l h.between) (sym is) h.does) f
 
 -- ---- an answer that leaves all else as it was
 

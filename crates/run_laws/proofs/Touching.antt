@@ -36,7 +36,7 @@ use Rattle.run_laws.specs.Touched.{Explained, IsOfRequest, IsTelling, IsUnlinked
 
 -- ---- what is touched
 
-request_touches : (r : RequestText) (t : List Event) (status : Status) → RunsRequest r t status → Throughout (IsOfRequest r) t
+pub request_touches : (r : RequestText) (t : List Event) (status : Status) → RunsRequest r t status → Throughout (IsOfRequest r) t
 request_touches (check schema) = checking.check_touches schema
 request_touches (decode schema type input) = decoding.decode_touches schema type input
 request_touches (encode schema type input) = encoding.encode_touches schema type input
@@ -188,14 +188,14 @@ unsent (connected address ok) un is = is
 unsent (accepted ok) un is = is
 unsent (told moment) un is = is
 
-never : (P Q : Event → Type 0) → ((e : Event) → P e → Q e → ⊥) → (t : List Event) → Throughout P t → Happened Q t → ⊥
+pub never : (P Q : Event → Type 0) → ((e : Event) → P e → Q e → ⊥) → (t : List Event) → Throughout P t → Happened Q t → ⊥
 never P Q apart [] all some = some
 never P Q apart (e ∷ t) all (inl is) = apart e all.0 is
 never P Q apart (e ∷ t) all (inr is) = never P Q apart t all.1 is
 
 -- ---- causes
 
-request_explains : (r : RequestText) (t : List Event) (status : Status) → RunsRequest r t status → Explains status t
+pub request_explains : (r : RequestText) (t : List Event) (status : Status) → RunsRequest r t status → Explains status t
 request_explains (check schema) = checking.check_has_cause schema
 request_explains (decode schema type input) = decoding.decode_has_cause schema type input
 request_explains (encode schema type input) = encoding.encode_has_cause schema type input
@@ -207,7 +207,7 @@ request_explains (client schema address state channels) = recovering.client_has_
 request_explains (layers old new type) = layering.layers_has_cause old new type
 request_explains (calls schema input) = calling_laws.calls_has_cause schema input
 
-explained_by : (t : List Event) (status other : Status) → Explains status t → status ≡ other → Explains other t
+pub explained_by : (t : List Event) (status other : Status) → Explains status t → status ≡ other → Explains other t
 explained_by t status other h is = subst (λ (s : Status). Explains s t) is h
 
 -- a status that is no fault's

@@ -1,5 +1,6 @@
 pub mod AllCame
 pub mod AmongSessions
+pub mod AnySession
 pub mod Beginnings
 pub mod Connected
 pub mod KnownEnds

@@ -22,7 +22,7 @@ use Rattle.serve_rooms.specs.Doing.{RunsKept}
 use Rattle.serve_rooms.specs.Serve.{keeps}
 use Rattle.serve_rooms.specs.declared.status.KeptStatus.{KeptStatus}
 use Rattle.serve_rooms.specs.declared.status.KeptStatus.TheVariants.{Run, KeepFault}
-use Rattle.run_laws.specs.Ended.{Ended, IsShown, LinkFailed, ReadFailed, Stops, WriteFailed}
+use Rattle.run_laws.specs.Ended.{Ended, ErrorsFailed, IsShown, LinkFailed, Stops, StopsIn}
 
 -- "tlbox: keep fault"
 abbrev pub keep_fault_line : List ℕ
@@ -50,11 +50,11 @@ IsKeeperEnd keeper_failed = Unit {0}
 IsKeeperEnd keeper_untold = Unit {0}
 
 -- the host's part: as the run of its job, where the keeper failed as one that was stopped, by the keeper's line, or by a prefix of it and that of memory
-abbrev pub HostEnds : Job → Type 0 → Type 0 → Type 0 → KeptEnd → View → View → Type 0
-HostEnds job R W L (served status) v w = Ended job R W L status v w
-HostEnds job R W L (stopped status) v w = Ended job R W L status v w
-HostEnds job R W L keeper_failed v w = Stops job W L keep_fault_line v w
-HostEnds job R W L keeper_untold v w = (u : View) × Stops job (Unit {0}) L keep_fault_line v u × TellsLine W memory_line u w
+abbrev pub HostEnds : Job → List Event → KeptEnd → View → View → Type 0
+HostEnds job t (served status) v w = Ended job t status v w
+HostEnds job t (stopped status) v w = Ended job t status v w
+HostEnds job t keeper_failed v w = StopsIn job t keep_fault_line v w
+HostEnds job t keeper_untold v w = (u : View) × Stops job (Unit {0}) (LinkFailed t) keep_fault_line v u × TellsLine (ErrorsFailed t) memory_line u w
 
 -- a fault of the outside stopped it
 abbrev pub IsOutsideFault : KeptEnd → Type 0
@@ -87,7 +87,7 @@ KeptByFile L schema address n entries now_entries keeper_untold v w = HasProfile
 pub record KeptEnds (schema address : List ℕ) (sessions : ℕ) (t : List Event) (v w : View) (reliable : Type 0) (old new : KeeperState) (status : KeptStatus) : Type 0 where
   pub end : KeptEnd
   pub status_is : status ≡ kept_status end
-  pub ends : HostEnds (keep_job old.entries schema address sessions) (ReadFailed t) (WriteFailed t) (LinkFailed t) end v w
+  pub ends : HostEnds (keep_job old.entries schema address sessions) t end v w
   pub kept : ServeKeeps schema v w
   pub sound : reliable → sound.Fits (told_job old.entries schema address sessions) v → IsOutsideFault end → ⊥
   pub entries : KeptByFile (LinkFailed t) schema address sessions old.entries new.entries end v w

@@ -4,3 +4,4 @@ pub mod Requests
 pub mod Answers
 pub mod Runs
 pub mod Touched
+pub mod Sessions

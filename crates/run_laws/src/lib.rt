@@ -4,6 +4,6 @@
 mod laws;
 
 pub use laws::{
-    stored_runs_end, words_and_files_have_an_answer, words_and_files_have_one_answer, words_end,
-    words_have_cause, words_keep, words_touch,
+    all_sessions_answer, requests_end, stored_runs_end, words_and_files_have_an_answer,
+    words_and_files_have_one_answer, words_end, words_have_cause, words_keep, words_touch,
 };

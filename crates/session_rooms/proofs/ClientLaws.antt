@@ -1,16 +1,12 @@
 -- Laws of `client`.
-use Rattle.std.proofs.Common.{◌≡◌, inl, codes, ltb, ℕ, ◌+◌, ℤ, List, [], ◌∷◌, ◌++◌, Bool, true, false, Option, Some, None, Ok, Err, true≢false, refl, sym, ap, subst}
+use Rattle.std.proofs.Common.{◌≡◌, inl, codes, ltb, ℕ, ◌+◌, ℤ, List, [], ◌∷◌, ◌++◌, Bool, true, false, Option, Some, None, Ok, Err, true≢false, refl, sym, subst}
 use Rattle.tl_base.specs.declared.counts.Kind.TheVariants as kinds
 use Rattle.tl_base.specs.declared.host.Slot.TheVariants as slots
 use Rattle.tl_base.specs.declared.host.Out.TheVariants as outs
 use Rattle.tl_base.specs.declared.packet.PacketFault.{PacketFault}
 use Rattle.tl_base.specs.declared.packet.PacketFault.TheVariants.{BadLength, Ended}
-use Rattle.box_events.specs.Weaves.{overlaps, uneven}
 use Rattle.box_events.specs.declared.requests.Numbered.{Numbered}
-use Rattle.box_client.specs.Replies.{Cause, no_list, peer_error, seq_back, wrong_kind}
 use Rattle.box_client.specs.States.{ClientState}
-use Rattle.box_client.specs.declared.fault.ClientFault.{ClientFault}
-use Rattle.fault_lines.specs.Answers.{answer_line}
 use Rattle.box_client.specs.Asking.{ticks, wakes, is_one_asking}
 use Rattle.wire_profile.specs.Indexes.{ProfileView}
 use Rattle.outside.specs.Answer.{done, link_fault_line, memory_line, refused, write_fault_line}
@@ -33,7 +29,7 @@ use Rattle.update_commands.proofs.ProfiledLaws.{keeps_profile, cause_profile}
 use Rattle.update_sessions.specs.declared.fault.SessionFault.{SessionFault}
 use Rattle.update_sessions.specs.declared.fault.SessionFault.TheVariants as session
 use Rattle.update_sessions.specs.declared.fault.TheConstants.{MAX_FRAMES}
-use Rattle.update_sessions.specs.Hearing.{IsFaultOf, hears}
+use Rattle.update_sessions.specs.Hearing.{hears}
 use Rattle.update_sessions.specs.Packed.{SpellsCall}
 use Rattle.session_commands.specs.Client.{client_line, many_channels_line}
 use Rattle.session_commands.specs.SessionEnds.{session_line}
@@ -142,13 +138,6 @@ same_fault fault other is = cc
 has_line : (fault : SessionFault) (t : List Event) (line : List ℕ) → session_line fault ≡ Some line → Happened IsFromLink t → IsEnded fault t
 has_line fault t line is came = subst (λ (o : Option (List ℕ)). IsBlamed o t) (sym is) came
 
-fault_line : (cause : Cause) (fault : ClientFault) → IsFaultOf cause fault → (line : List ℕ) × (answer_line fault ≡ Some line)
-fault_line (peer_error code) fault is = (_, ap answer_line is)
-fault_line wrong_kind fault is = (_, ap answer_line is)
-fault_line (no_list (overlaps pts)) fault is = (_, ap answer_line is)
-fault_line (no_list (uneven a b c)) fault is = (_, ap answer_line is)
-fault_line (seq_back at seq) fault is = (_, ap answer_line is)
-
 module _ (p : ProfileView) (fault : SessionFault) where
   asked_ended : (d : ClientState) (ok : Bool) (ms : List Numbered) (t u : List Event) → Sends (SpellsCall p) ms t ok → after_asking d ok u (Err fault) → IsEnded fault (t ++ u)
   asked_ended d true ms t u sent h = absurd (let no : Err fault ≡ Ok d = h.1 in cc)
@@ -162,8 +151,7 @@ module _ (p : ProfileView) (fault : SessionFault) where
   bytes_ended c bytes t u came (no_frame f refuses none is) =
       ended_as fault (session.Wire f) (t ++ u) (same_fault fault (session.Wire f) is) (ended_first (session.Wire f) t u (has_line (session.Wire f) t _ refl came))
   bytes_ended c bytes t u came (refused_frame f refuses none is) =
-      let line = fault_line refuses.cause f refuses.is in
-      ended_as fault (session.Client f) (t ++ u) (same_fault fault (session.Client f) is) (ended_first (session.Client f) t u (has_line (session.Client f) t line.0 line.1 came))
+      ended_as fault (session.Client f) (t ++ u) (same_fault fault (session.Client f) is) (ended_first (session.Client f) t u (has_line (session.Client f) t _ refl came))
   bytes_ended c bytes t u came (heard f means taken h) = ended_last fault t u (ask_ended (hears c f) u h)
 
   -- what came is no packet

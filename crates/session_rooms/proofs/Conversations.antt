@@ -9,7 +9,7 @@ use Rattle.box_events.specs.declared.requests.Numbered.{Numbered}
 use Rattle.box_client.specs.States.{ClientState}
 use Rattle.box_client.specs.Asking.{ticks, wakes, is_one_asking}
 use Rattle.box_world.specs.Streams.{begun}
-use Rattle.box_client.specs.Replies.{Cause}
+use Rattle.box_client.specs.declared.fault.ClientFault.{ClientFault}
 use Rattle.wire_profile.specs.Indexes.{ProfileView}
 use Rattle.wire_profile.specs.Profiles.{IsProfile}
 use Rattle.wire_values.specs.CarriedFrames.{IsFrame}
@@ -29,7 +29,6 @@ use Rattle.update_sessions.specs.declared.fault.TheConstants.{MAX_FRAMES}
 use Rattle.update_sessions.specs.Hearing.{cause_of, hears}
 use Rattle.update_sessions.specs.Packed.{MeansFrame, Packed, SpellsCall}
 use Rattle.update_sessions.specs.Turns.{HearsPacket}
-use Rattle.session_commands.proofs.EachClient.{told_fault}
 use Rattle.session_commands.proofs.EachPost.{each_message}
 use Rattle.codec_rooms.proofs.Typing.{begun_as, did_as}
 use Rattle.session_rooms.specs.Sending.{Sends}
@@ -54,11 +53,9 @@ module _ (p : ProfileView) where
   can_ask c = can_then _ _ (can_send (SpellsCall p) (ticks c).asks) (can_after (ticks c).client)
 
   module _ (good : IsProfile p) (c : ClientState) (asking : is_one_asking c ≡ true) (bytes : List ℕ) where
-    of_fate : (f : Frame) → MeansFrame p f bytes → (o : Option Cause) → cause_of c f ≡ o → Begins (HearsBytes p c bytes) []
+    of_fate : (f : Frame) → MeansFrame p f bytes → (o : Option ClientFault) → cause_of c f ≡ o → Begins (HearsBytes p c bytes) []
     of_fate f means None clear = begun_as (Asks p (hears c f)) (HearsBytes p c bytes) (λ t r h. heard f means (record { asking = asking; clear = clear }) h) (can_ask (hears c f))
-    of_fate f means (Some cause) is =
-        let told = told_fault cause in
-        record { rest = []; answer = Err (Client told.0); whole = refused told.0 (record { frame = f; means = means; cause = cause; refuses = is; is = told.1 }) refl refl }
+    of_fate f means (Some cause) is = record { rest = []; answer = Err (Client cause); whole = refused cause (record { frame = f; means = means; refuses = is }) refl refl }
 
     pub can_hear : AreBytes bytes → Begins (HearsBytes p c bytes) []
     can_hear are = elim (each_message p good frames (frame_formed p good) frame_tree frame_in IsFrame frame_laws bytes are) as (λ z. Begins (HearsBytes p c bytes) []) [

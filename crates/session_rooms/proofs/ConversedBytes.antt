@@ -167,7 +167,7 @@ module _ (p : ProfileView) where
   heard_none c fault bytes t u a m b takes (refused e refuses none is) f g =
       let comes = comes_first refuses.frame bytes t a m takes refuses.means f in
       unsent c fault (session.Client e) t u (whole bytes) a m b takes f g none is tt
-      (refuses.frame, (refl, refl), record { rest = given_by m; comes = comes; cause = refuses.cause; refuses = refuses.refuses; is = refuses.is })
+      (refuses.frame, (refl, refl), record { rest = given_by m; comes = comes; refuses = refuses.refuses })
   heard_none c fault bytes t u a m b takes (heard frame means taken asks) f g =
       let asked = asked_part (hears c frame) fault u m b asks g in
       let comes = comes_first frame bytes t a m takes means f in

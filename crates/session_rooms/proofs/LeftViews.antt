@@ -22,43 +22,6 @@ module _ {A : Type 0} (part : View → A) (P : Event → Type 0) (each : (e : Ev
 
 -- ---- Output
 
--- slots are read, and what is written isn't written to Output
-abbrev pub SparesOutput : Event → Type 0
-SparesOutput (opened slot name ok) = Unit {0}
-SparesOutput (took slot bytes) = Unit {0}
-SparesOutput (ended slot) = Unit {0}
-SparesOutput (read_failed slot) = Unit {0}
-SparesOutput (created out name ok) = ⊥
-SparesOutput (put out bytes) = out ≡ outs.Output → ⊥
-SparesOutput (write_failed out) = Unit {0}
-SparesOutput (listened address ok) = ⊥
-SparesOutput (connected address ok) = ⊥
-SparesOutput (accepted ok) = ⊥
-SparesOutput (told moment) = ⊥
-
-put_spares : (out : Out) (bytes : List ℕ) (v : View) → (out ≡ outs.Output → ⊥) → written_of outs.Output (with_written out bytes v) ≡ written_of outs.Output v
-put_spares outs.Output bytes v other = absurd (other refl)
-put_spares outs.Errors bytes v other = refl
-put_spares outs.State bytes v other = refl
-put_spares outs.Link bytes v other = refl
-
-output_spared : (e : Event) (s n : Outside) → Happens e s n → SparesOutput e → written_of outs.Output n.view ≡ written_of outs.Output s.view
-output_spared (opened slot name true) s n h k = ap (written_of outs.Output) h.0.2
-output_spared (opened slot name false) s n h k = ap (written_of outs.Output) h.0
-output_spared (took slot bytes) s n h k = ap (written_of outs.Output) h.1
-output_spared (ended slot) s n h k = ap (written_of outs.Output) h.1
-output_spared (read_failed slot) s n h k = ap (written_of outs.Output) h.0
-output_spared (created out name ok) s n h k = absurd k
-output_spared (put out bytes) s n h k = ap (written_of outs.Output) h.0 ∙ put_spares out (written_of out s.view ++ bytes) s.view k
-output_spared (write_failed out) s n h k = ap (written_of outs.Output) h.0
-output_spared (listened address ok) s n h k = absurd k
-output_spared (connected address ok) s n h k = absurd k
-output_spared (accepted ok) s n h k = absurd k
-output_spared (told moment) s n h k = absurd k
-
-pub spares_output : (t : List Event) (s n : Outside) → Throughout SparesOutput t → Fits t s n → written_of outs.Output n.view ≡ written_of outs.Output s.view
-spares_output = all_leave (written_of outs.Output) SparesOutput output_spared
-
 -- ---- all but slots, Output and Errors
 
 abbrev none_left : Left

@@ -38,7 +38,6 @@ use Rattle.schema_files.specs.declared.schema_text.TheConstants.{SCHEMA_BYTES}
 use Rattle.fault_lines.specs.Profiled as profiling
 use Rattle.fault_lines.proofs.Profiled.{are_profiles}
 use Rattle.codec_rooms.specs.Typed as typed
-use Rattle.codec_rooms.proofs.FileLaws.{run_done}
 use Rattle.codec_rooms.proofs.TypedFiles.{text_stays}
 use Rattle.update_commands.specs.Profile.{OfProfile, no_profile, profiled}
 use Rattle.session_commands.specs.Linked.{next_link}
@@ -48,9 +47,8 @@ use Rattle.session_commands.proofs.EachPost.{BeginsPacket, BeginsNone, begins_so
 use Rattle.session_commands.proofs.OnePost.{one_post}
 use Rattle.session_commands.proofs.OneReply.{body_bytes}
 use Rattle.session_rooms.specs.Post.{CallsOver, OfCall, no_call, long_call, calls_it, OfInputFile, OfText, no_json, json_of, after_connect, after_packet, after_reading, after_sending, posts, told_as}
-use Rattle.session_rooms.specs.PostAnswers.{EndsWith, PostEnds}
 use Rattle.session_rooms.proofs.PacketsLeft.{packet_left, rest_of}
-use Rattle.session_rooms.proofs.PostFiles.{IsTold, OfInput, json_stays, last_push, linked, output_of, post_answers, shown_of}
+use Rattle.session_rooms.proofs.PostFiles.{IsTold, OfInput, json_stays, last_push, linked, output_of, shown_of}
 use Rattle.session_rooms.proofs.Spared.{OnlySlots, reading_spares, writes_spare}
 
 -- ---- lines
@@ -274,10 +272,9 @@ module _ (schema address input : List ℕ) where
       (λ text files given. OfSchemaText (codes "schema") (profiling.OfProfile (Of files given)) text) (λ file files given. text_stays (codes "schema") (profiling.OfProfile (Of files given)) file) schema_told
       (λ s ready. ready.schema_there)
 
-pub post_ends : PostEnds
-post_ends schema address input t r s n a run other f reliable schema_there input_there bytes is room =
+-- where the files are there, no call was told to fail, the next link gives bytes, and there is room for the answer, no fault ends it
+pub post_unfailing : (schema address input : List ℕ) (t : List Event) (r : Status) (s n : Outside) (a : Answer) → posts schema address input t r → Fits t s n → IsReliable s → IsThere schema s.view → IsThere input s.view → AreBytes (next_link s.view)
+    → PostAnswer s.view.files (next_link s.view) schema address input a → HasRoomFor a s.view → IsTold r
+post_unfailing schema address input t r s n a h f reliable schema_there input_there bytes is room =
     let one : (b : Answer) → PostAnswer s.view.files (next_link s.view) schema address input b → a ≡ b = λ b of. one_post s.view.files (next_link s.view) bytes schema address input a b is of in
-    let told = post_told schema address input t r s n (run_done (posts schema address input) t r run other) f (record { reliable = reliable; schema_there = schema_there; input_there = input_there; bytes = bytes })
-    (λ b of. subst (λ (x : Answer). HasRoomFor x s.view) (one b of) room) in
-    let x = post_answers schema address input t r s n run f told.0 told.1 in
-    subst (λ (b : Answer). EndsWith b r s n) (sym (one x.0 x.1)) x.2
+    post_told schema address input t r s n h f (record { reliable = reliable; schema_there = schema_there; input_there = input_there; bytes = bytes }) (λ b of. subst (λ (x : Answer). HasRoomFor x s.view) (one b of) room)

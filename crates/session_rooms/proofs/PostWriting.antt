@@ -47,7 +47,7 @@ use Rattle.session_commands.specs.Post as answer
 use Rattle.session_rooms.specs.Post.{CallsOver, OfCall, no_call, long_call, calls_it, OfInputFile, OfText, no_json, json_of, after_connect, after_packet, after_reading, after_sending, posts, told_as}
 use Rattle.session_rooms.specs.PostWrites.{PostWrites, WritesNone, WritesSome}
 use Rattle.session_rooms.proofs.PacketsLeft.{packet_left, rest_of}
-use Rattle.session_rooms.proofs.PostFiles.{OfInput, aside, json_stays, linked, output_of, sent_bytes, shown_of, tell_adds}
+use Rattle.session_rooms.proofs.PostFiles.{OfInput, aside, json_stays, linked, output_of, sent_bytes, shown_of}
 use Rattle.session_rooms.proofs.PostUnfailing.{some_outcome}
 use Rattle.session_rooms.proofs.Spared.{OnlySlots, reading_spares, writes_spare}
 
@@ -66,7 +66,12 @@ abbrev OnlyTold : Outside → Outside → Type 0
 OnlyTold s n = (output_of n ≡ output_of s) × (aside n.view ≡ aside s.view)
 
 tell_only : (line : List ℕ) (status r : Status) (t : List Event) (s n : Outside) → Tells line status t r → Fits t s n → OnlyTold s n
-tell_only line status r t s n h f = let e = tell_adds line status r t s n h f in (e.wrote ∙ append-nil (output_of s), e.rest)
+tell_only line status r t s n h f =
+    let parts = fits_both h.first h.rest s n (subst (λ (l : List Event). Fits l s n) h.splits f) in
+    let stays : n ≡ parts.0 = subst (λ (l : List Event). Fits l parts.0 n) h.goes.0 parts.2 in (
+      ap output_of stays ∙ writes_spare outs.Errors (written_of outs.Output) (λ bytes v. refl) line h.first h.between s parts.0 h.does parts.1,
+      ap (λ (o : Outside). aside o.view) stays ∙ writes_spare outs.Errors aside (λ bytes v. refl) line h.first h.between s parts.0 h.does parts.1,
+    )
 
 told_none : (s n : Outside) → OnlyTold s n → WritesNone s n
 told_none s n e = (e.0, ap (λ (v : View). v.written.links) e.1)

@@ -4,6 +4,5 @@ pub mod Client
 pub mod ClientLaws
 pub mod Post
 pub mod PostLaws
-pub mod PostAnswers
 pub mod PostWrites
 pub mod inner

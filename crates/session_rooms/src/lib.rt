@@ -9,5 +9,5 @@ mod saving;
 mod sending;
 
 pub use client::{recover_client, run_client};
-pub use laws::{post_answers, post_ends, post_writes};
+pub use laws::post_writes;
 pub use post::{post_call, run_post};

@@ -38,13 +38,14 @@ use Rattle.call_commands.specs.Calls as answers
 use Rattle.codec_rooms.specs.Typed.{OfText, after_schema, no_schema, schema_of}
 use Rattle.codec_rooms.proofs.TypedFiles.{text_stays}
 use Rattle.call_commands.specs.CallsWork.{OfInput, after_opening, tells_calls}
-use Rattle.run_laws.specs.Ended.{IsShown, LinkFailed, RunsJob, WriteFailed}
+use Rattle.run_laws.specs.Ended.{ErrorsFailed, IsShown, IsUntold, LinkFailed, RunsJob}
 use Rattle.run_laws.specs.Ended as ended
 use Rattle.run_laws.proofs.files.Coming.{Spares, spares_as, spares_both, spares_more}
-use Rattle.run_laws.proofs.files.Cutting.{Cut, past, within, begun_writes, cut, Lost, line_told, some_more, told_as}
+use Rattle.run_laws.proofs.files.Cutting.{Cut, past, within, cut, line_told, some_more, told_as}
 use Rattle.run_laws.proofs.files.Ending.{EndsSo, IsPrinted, Stopped, after_printed, done_printed, keeps_unread, leaves_printed, memory_ends, memory_sound, tell_dry, tell_plain}
 use Rattle.run_laws.proofs.files.Schemas.{file_printed, schema_whole}
 use Rattle.run_laws.proofs.files.Spared.{IsDry, IsFileRead, IsPlain, ToErrors, ToOutput, errors_left, output_alone, output_left, output_plain, plain_keeps, reads_to_errors, reads_to_output}
+use Rattle.run_laws.proofs.serving.Lines.{writes_begun}
 use Rattle.run_laws.proofs.files.Turning.{BeginsWith, GoesTo, halted, unread, unwritten, ends, IsBegun, Puts, fits_join, input_of, output_of, packets_go}
 
 -- ---- what was read before
@@ -150,7 +151,7 @@ module _ (Is : Answer → Type 0) (P C : Type 0) (line : List ℕ) (is : Is (ref
       refused_after_none h.between h.first more t u status n h.does (subst (λ (l : List Event). after_output (refused line) h.between l status) after h.goes) splits g
   refusal_cut t u status n h g (within e more splits later) =
       let w = subst (λ (l : List Event). Writes outs.Output [] l h.between) splits h.does in
-      let some = begun_writes outs.Output [] h.between t (e ∷ more) s n w g in
+      let some = writes_begun outs.Output [] t (e ∷ more) h.between s n w g in
       halted (some_more e more u h.rest later) some.0
       (record { fits = g; only = throughout_first ToOutput t (e ∷ more) (empty_outputs h.between (t ++ e ∷ more) w); spares = inl (throughout_first IsDry t (e ∷ more) (empty_dry h.between (t ++ e ∷ more) w)); grew = some.3 })
       (inr (λ fine. record { answer = refused line; is = is; more = some.1; output = sym some.2 }))
@@ -253,8 +254,8 @@ module _ (schema input : List ℕ) where
   CallsEnd = EndsSo Of (Unit {0}) (Unit {0}) Left
 
   module _ (first rest : List Event) where
-    lost_later : Lost rest → WriteFailed (first ++ rest)
-    lost_later lost = happened_last (IsFailure kinds.Writes) first rest lost
+    lost_later : ErrorsFailed rest → ErrorsFailed (first ++ rest)
+    lost_later lost = happened_last IsUntold first rest lost
 
     some_given : (s m : Outside) (written : List ℕ) → Puts (Came s) s m first written → BeginsWith (Of s.view.files) written → WritesSomeOf (calls_job schema input) (LinkFailed (first ++ rest)) s.view m.view
     some_given s m written p b = (b.answer, inl (inl b.is), (written, b.more, sym b.output, p.grew), inl (errors_left first s m p.fits p.only))
@@ -265,13 +266,13 @@ module _ (schema input : List ℕ) where
         let line = line_told read_fault_line statuses.ReadFault rest status m n h g in
         ended.read_failed (happened_first (IsFailure kinds.Reads) first rest fails) (told_status read_fault_line statuses.ReadFault rest status h)
         (line.0 ∙ p.grew ∙ ap (λ (l : List ℕ). output_of s ++ l) none ∙ append-nil (output_of s))
-        (told_as (Lost rest) (WriteFailed (first ++ rest)) read_fault_line s.view m.view n.view lost_later (errors_left first s m p.fits p.only) line.1)
+        (told_as (ErrorsFailed rest) (ErrorsFailed (first ++ rest)) read_fault_line s.view m.view n.view lost_later (errors_left first s m p.fits p.only) line.1)
     unread_ends status s m n written hold p (inr begins) g fails h =
         let line = line_told read_fault_line statuses.ReadFault rest status m n h g in
         ended.read_failed_later (happened_first (IsFailure kinds.Reads) first rest fails) (told_status read_fault_line statuses.ReadFault rest status h) (record {
           stopped = m.view;
           given = some_given s m written p (begins hold);
-          told = (line.0, told_as (Lost rest) (WriteFailed (first ++ rest)) read_fault_line m.view m.view n.view lost_later refl line.1);
+          told = (line.0, told_as (ErrorsFailed rest) (ErrorsFailed (first ++ rest)) read_fault_line m.view m.view n.view lost_later refl line.1);
         }) tt
 
     unwritten_ends : (status : Status) (s m n : Outside) (written : List ℕ) → Puts (Came s) s m first written → BeginsWith (Of s.view.files) written → Fits rest m n → Happened (IsFailure kinds.Writes) first → Tells write_fault_line statuses.WriteFault rest status
@@ -281,14 +282,14 @@ module _ (schema input : List ℕ) where
         ended.write_failed (happened_first (IsFailure kinds.Writes) first rest fails) (told_status write_fault_line statuses.WriteFault rest status h) (record {
           stopped = m.view;
           given = some_given s m written p b;
-          told = (line.0, told_as (Lost rest) (WriteFailed (first ++ rest)) write_fault_line m.view m.view n.view lost_later refl line.1);
+          told = (line.0, told_as (ErrorsFailed rest) (ErrorsFailed (first ++ rest)) write_fault_line m.view m.view n.view lost_later refl line.1);
         })
 
     told_ends : (a : Answer) (status : Status) (s m n : Outside) → Puts (Came s) s m first a.output → Fits rest m n → Of s.view.files a → Leaves a s.view n.view → Tells a.errors a.status rest status → CallsEnd (first ++ rest) status s n
     told_ends a status s m n p g is leaves h =
         let line = line_told a.errors a.status rest status m n h g in
         ended.answered a (inl is) (told_status a.errors a.status rest status h) (line.0 ∙ p.grew) leaves
-        (told_as (Lost rest) (WriteFailed (first ++ rest)) a.errors s.view m.view n.view lost_later (errors_left first s m p.fits p.only) line.1)
+        (told_as (ErrorsFailed rest) (ErrorsFailed (first ++ rest)) a.errors s.view m.view n.view lost_later (errors_left first s m p.fits p.only) line.1)
 
   goes_ends : (t : List Event) (status : Status) (s n : Outside) → HoldBytes s.view.files → Fits t s n → Throughout IsPlain t → GoesCalls s n t [] status → CallsEnd t status s n
   goes_ends t status s n hold f plain (halted few written p b) = absurd (omega (arith, few))

@@ -24,11 +24,12 @@ use Rattle.outside.proofs.Causing.{happened_first, happened_last, keeps_print, k
 use Rattle.outside.specs.Fits.{Fits}
 use Rattle.outside.specs.Reliable.{IsReliable}
 use Rattle.outside.proofs.Fitting.{fits_both, fits_keeps, reliable_on, writes_append, writes_fail_full}
-use Rattle.run_laws.specs.Ended.{Ended, IsShown, LinkFailed, ReadFailed, RunsJob, WriteFailed}
+use Rattle.run_laws.specs.Ended.{Ended, ErrorsFailed, IsShown, IsUntold, RunsJob}
 use Rattle.run_laws.specs.Ended as ends
 use Rattle.run_laws.proofs.files.Coming.{ComesTo, reading, unread, answered, Comes, Spares, spares_more}
-use Rattle.run_laws.proofs.files.Cutting.{Cut, past, within, cut, Lost, begun_writes, line_told, some_written, told_as}
+use Rattle.run_laws.proofs.files.Cutting.{Cut, past, within, cut, line_told, told_as}
 use Rattle.run_laws.proofs.files.Spared.{IsDry, IsFileRead, IsPlain, ToErrors, ToOutput, dry_keeps, errors_left, output_alone, output_left, plain_keeps, reads_plain, reads_to_errors, reads_to_output, silent}
+use Rattle.run_laws.proofs.serving.Lines.{writes_begun, writes_some}
 
 -- ---- answers that are printed
 
@@ -135,7 +136,7 @@ module _ (a : Answer) where
 
   whole_written : (ok : Bool) (t : List Event) (s n : Outside) → Writes outs.Output a.output t ok → Fits t s n → AddsPrefix s.view.written.output n.view.written.output a.output
   whole_written true t s n h f = (a.output, [], append-nil a.output, writes_append outs.Output a.output t s n h f)
-  whole_written false t s n h f = some_written outs.Output a.output t s n h f
+  whole_written false t s n h f = writes_some outs.Output a.output t s n h f
 
   cut_prints : (t u : List Event) (status : Status) (s n : Outside) (h : Prints a (t ++ u) status) → Fits t s n → Cut h.first h.rest t u → AddsPrefix s.view.written.output n.view.written.output a.output
   cut_prints t u status s n h f (past more splits after) =
@@ -144,7 +145,7 @@ module _ (a : Answer) where
       let same = output_left more parts.0 n parts.2 (throughout_first ToErrors more u all) in
       subst (λ (l : List ℕ). AddsPrefix s.view.written.output l a.output) (sym same) (whole_written h.between h.first s parts.0 h.does parts.1)
   cut_prints t u status s n h f (within e more splits later) =
-      begun_writes outs.Output a.output h.between t (e ∷ more) s n (subst (λ (l : List Event). Writes outs.Output a.output l h.between) splits h.does) f
+      writes_begun outs.Output a.output t (e ∷ more) h.between s n (subst (λ (l : List Event). Writes outs.Output a.output l h.between) splits h.does) f
 
   begun_prints : (t u : List Event) (status : Status) (s n : Outside) → Prints a (t ++ u) status → Fits t s n → AddsPrefix s.view.written.output n.view.written.output a.output
   begun_prints t u status s n h f = cut_prints t u status s n h f (cut h.first h.rest t u h.splits)
@@ -154,7 +155,7 @@ module _ (Of : Files → Answer → Type 0) (pieces on : Type 0) (keeps : View �
   J = record (unlinked_job (λ v a. Of v.files a) pieces keeps) { reads_on = on }
 
   abbrev pub EndsSo : List Event → Status → Outside → Outside → Type 0
-  EndsSo t status s n = Ended J (ReadFailed t) (WriteFailed t) (LinkFailed t) status s.view n.view
+  EndsSo t status s n = Ended J t status s.view n.view
 
   print_by : (a : Answer) (ok : Bool) (reads first rest : List Event) (status : Status) (s m k n : Outside) → Fits reads s m → Fits first m k → Fits rest k n → Throughout IsFileRead reads → Writes outs.Output a.output first ok
       → after_output a ok rest status → Of s.view.files a → Leaves a s.view n.view → EndsSo (reads ++ (first ++ rest)) status s n
@@ -163,23 +164,23 @@ module _ (Of : Files → Answer → Type 0) (pieces on : Type 0) (keeps : View �
       let errors = errors_left first m k g (keeps_write ToOutput outs.Output a.output (λ piece. tt) tt first true w) ∙ errors_left reads s m f (reads_to_output reads are) in
       let output = line.0 ∙ writes_append outs.Output a.output first m k w g ∙ ap (λ (l : List ℕ). l ++ a.output) (output_left reads s m f (reads_to_errors reads are)) in
       ends.answered a (inl is) (told_status a.errors a.status rest status h) output leaves
-      (told_as (Lost rest) (WriteFailed (reads ++ (first ++ rest))) a.errors s.view k.view n.view (λ lost. happened_last (IsFailure kinds.Writes) reads (first ++ rest) (happened_last (IsFailure kinds.Writes) first rest lost)) errors line.1)
+      (told_as (ErrorsFailed rest) (ErrorsFailed (reads ++ (first ++ rest))) a.errors s.view k.view n.view (λ lost. happened_last IsUntold reads (first ++ rest) (happened_last IsUntold first rest lost)) errors line.1)
   print_by a false reads first rest status s m k n f g i are w h is leaves =
       let line = line_told write_fault_line statuses.WriteFault rest status k n h i in
       let errors = errors_left first m k g (keeps_write ToOutput outs.Output a.output (λ piece. tt) tt first false w) ∙ errors_left reads s m f (reads_to_output reads are) in
-      let some = subst (λ (l : List ℕ). AddsPrefix l k.view.written.output a.output) (output_left reads s m f (reads_to_errors reads are)) (some_written outs.Output a.output first m k w g) in
+      let some = subst (λ (l : List ℕ). AddsPrefix l k.view.written.output a.output) (output_left reads s m f (reads_to_errors reads are)) (writes_some outs.Output a.output first m k w g) in
       let later = happened_last (IsFailure kinds.Writes) reads (first ++ rest) in
       ends.write_failed (later (happened_first (IsFailure kinds.Writes) first rest (unwritten outs.Output a.output first w))) (told_status write_fault_line statuses.WriteFault rest status h) (record {
         stopped = k.view;
         given = (a, inl (inl is), some, inl errors);
-        told = (line.0, told_as (Lost rest) (WriteFailed (reads ++ (first ++ rest))) write_fault_line k.view k.view n.view (λ lost. later (happened_last (IsFailure kinds.Writes) first rest lost)) refl line.1);
+        told = (line.0, told_as (ErrorsFailed rest) (ErrorsFailed (reads ++ (first ++ rest))) write_fault_line k.view k.view n.view (λ lost. happened_last IsUntold reads (first ++ rest) (happened_last IsUntold first rest lost)) refl line.1);
       })
 
   unread_ends : (first rest : List Event) (status : Status) (s m n : Outside) → Fits first s m → Fits rest m n → Throughout IsFileRead first → Happened (IsFailure kinds.Reads) first → Unread rest status → EndsSo (first ++ rest) status s n
   unread_ends first rest status s m n f g are failed h =
       let line = line_told read_fault_line statuses.ReadFault rest status m n h g in
       ends.read_failed (happened_first (IsFailure kinds.Reads) first rest failed) (told_status read_fault_line statuses.ReadFault rest status h) (line.0 ∙ output_left first s m f (reads_to_errors first are))
-      (told_as (Lost rest) (WriteFailed (first ++ rest)) read_fault_line s.view m.view n.view (λ lost. happened_last (IsFailure kinds.Writes) first rest lost) (errors_left first s m f (reads_to_output first are)) line.1)
+      (told_as (ErrorsFailed rest) (ErrorsFailed (first ++ rest)) read_fault_line s.view m.view n.view (λ lost. happened_last IsUntold first rest lost) (errors_left first s m f (reads_to_output first are)) line.1)
 
   module _ (are_printed : (files : Files) (a : Answer) → Of files a → IsPrinted a) where
     whole_ends : (C : Type 0) (t : List Event) (status : Status) (s n : Outside) → ComesTo (Of s.view.files) C s t [] status → Fits t s n → EndsSo t status s n
@@ -230,13 +231,13 @@ module _ (Of : Files → Answer → Type 0) (pieces on : Type 0) (keeps : View �
     memory_ends first rest status s m n (inl same, spared) g h =
         let line = line_told memory_line statuses.Memory rest status m n h g in
         ends.out_of_memory (told_status memory_line statuses.Memory rest status h) (line.0 ∙ same)
-        (told_as (Lost rest) (WriteFailed (first ++ rest)) memory_line s.view m.view n.view (λ lost. happened_last (IsFailure kinds.Writes) first rest lost) spared line.1)
+        (told_as (ErrorsFailed rest) (ErrorsFailed (first ++ rest)) memory_line s.view m.view n.view (λ lost. happened_last IsUntold first rest lost) spared line.1)
     memory_ends first rest status s m n (inr (has, a, is, some), spared) g h =
         let line = line_told memory_line statuses.Memory rest status m n h g in
         ends.out_of_memory_later (told_status memory_line statuses.Memory rest status h) (record {
           stopped = m.view;
           given = (a, inl (inl is), some, inl spared);
-          told = (line.0, told_as (Lost rest) (WriteFailed (first ++ rest)) memory_line m.view m.view n.view (λ lost. happened_last (IsFailure kinds.Writes) first rest lost) refl line.1);
+          told = (line.0, told_as (ErrorsFailed rest) (ErrorsFailed (first ++ rest)) memory_line m.view m.view n.view (λ lost. happened_last IsUntold first rest lost) refl line.1);
         }) has
 
     -- ---- a run

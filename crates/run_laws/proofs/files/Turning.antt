@@ -33,9 +33,10 @@ use Rattle.call_commands.specs.Calls as answers
 use Rattle.call_commands.proofs.EachFile.{answered_next, output_after}
 use Rattle.call_commands.specs.CallsWork.{SoFar, so_far, Last, TellsRefusal, after_line, after_packet, end_of, OfPacket, no_packet, too_long, told, TellsNext, TellsPackets}
 use Rattle.run_laws.proofs.files.Coming.{Spares, none_missing}
-use Rattle.run_laws.proofs.files.Cutting.{Cut, past, within, begun_writes, cut, some_more, some_written}
+use Rattle.run_laws.proofs.files.Cutting.{Cut, past, within, cut, some_more}
 use Rattle.run_laws.proofs.files.Packets.{packet_left}
 use Rattle.run_laws.proofs.files.Spared.{IsDry, IsFileRead, ToOutput, dry_keeps, output_left, reads_to_errors, reads_to_output}
+use Rattle.run_laws.proofs.serving.Lines.{writes_begun, writes_some}
 
 abbrev pub output_of : Outside → List ℕ
 output_of s = s.view.written.output
@@ -134,7 +135,7 @@ module _ (schema : Declared) where
         → Fits t m b → TurnTo x a b (taken ++ t) u r
     still_puts line ok first rest t u more e r next w splits later g =
         puts (some_more e more u rest later) line next (outputs t (throughout_first ToOutput t (e ∷ more) (subst (Throughout ToOutput) splits (write_outputs line first ok w))))
-        (subst (λ (l : List ℕ). AddsPrefix l (output_of b) line) same_output (begun_writes outs.Output line ok t (e ∷ more) m b (subst (λ (l : List Event). Writes outs.Output line l ok) splits w) g))
+        (subst (λ (l : List ℕ). AddsPrefix l (output_of b) line) same_output (writes_begun outs.Output line t (e ∷ more) ok m b (subst (λ (l : List Event). Writes outs.Output line l ok) splits w) g))
 
     refused_after_none : (place : ℕ) (why : List ℕ) (ok : Bool) (first more t u : List Event) (status : Status) (r : Turn SoFar Status) → r ≡ leave status → PacketRefused schema x.past x.at (input_of a) place why → Writes outs.Output [] first ok
         → after_output (refused (input_line place why)) ok (more ++ u) status → t ≡ first ++ more → Fits t m b → TurnTo x a b (taken ++ t) u r
@@ -176,7 +177,7 @@ module _ (schema : Declared) where
           let (status, told_so, is) = last_is (Tells write_fault_line statuses.WriteFault) (more ++ u) r h in
           let kept = fits_keeps taken a m fit in
           no_write status (taken ++ first) more parts.0 line (split_more t first more splits) is (outputs first (write_outputs line first false w)) (fits_join taken first a m parts.0 fit parts.1) parts.2 comes_next
-          (subst (λ (l : List ℕ). AddsPrefix l (output_of parts.0) line) same_output (some_written outs.Output line first m parts.0 w parts.1)) (happened_last (IsFailure kinds.Writes) taken first (not_written outs.Output line first w))
+          (subst (λ (l : List ℕ). AddsPrefix l (output_of parts.0) line) same_output (writes_some outs.Output line first m parts.0 w parts.1)) (happened_last (IsFailure kinds.Writes) taken first (not_written outs.Output line first w))
           (λ reliable. let full = writes_fail_full outs.Output line first m parts.0 w parts.1 (reliable_on a m kept reliable) in omega (arith, full, kept.room, ap length same_output)) told_so
 
       line_cut : (t u : List Event) (r : Turn SoFar Status) (h : Then (Writes outs.Output line) (after_line next) (t ++ u) r) → Fits t m b → Cut h.first h.rest t u → TurnTo x a b (taken ++ t) u r

@@ -21,12 +21,13 @@ use Rattle.serve_rooms.specs.ServedBytes.{added_in}
 use Rattle.serve_rooms.specs.Sessions.{keep_fault_line}
 use Rattle.serve_rooms.specs.declared.status.KeptStatus.{KeptStatus}
 use Rattle.serve_rooms.specs.declared.status.KeptStatus.TheVariants.{KeepFault, Run}
-use Rattle.run_laws.specs.Ended.{Ended, LinkFailed, ReadFailed, WriteFailed}
+use Rattle.run_laws.specs.Ended.{Ended, ErrorsFailed, LinkFailed, ReadFailed}
 use Rattle.run_laws.specs.Ended as ending
 use Rattle.run_laws.specs.Kept.{HostEnds, IsKeeperEnd, IsOutsideFault, KeptByFile, KeptEnd, kept_status}
 use Rattle.run_laws.specs.Kept as kept
 use Rattle.run_laws.proofs.keeping.Entries.{grown_entries}
-use Rattle.run_laws.proofs.serving.Loads.{LineSaid, Untouched, errors_of, output_of}
+use Rattle.run_laws.proofs.serving.Lines.{errors_of, output_of}
+use Rattle.run_laws.proofs.serving.Loads.{LineSaid, Untouched}
 use Rattle.run_laws.proofs.keeping.Openings.{job, some_given}
 
 -- ---- a run, by its parts
@@ -36,7 +37,7 @@ module _ (schema address : List ℕ) (n : ℕ) (old new : KeeperState) where
   pub record Part (all : List Act) (status : KeptStatus) (a b : Outside) : Type 0 where
     pub end : KeptEnd
     pub status_is : status ≡ kept_status end
-    pub ends : HostEnds (job old.entries schema address n) (ReadFailed (events_in all)) (WriteFailed (events_in all)) (LinkFailed (events_in all)) end a.view b.view
+    pub ends : HostEnds (job old.entries schema address n) (events_in all) end a.view b.view
     pub entries : KeptByFile (LinkFailed (events_in all)) schema address n old.entries new.entries end a.view b.view
     pub fault : IsKeeperEnd end → Happened IsKeeperFault all
     pub never : (es : List Entry) → old.entries ≡ Some es → IsSure old → RoomForRun schema n old.room a.view es → IsKeeperEnd end → ⊥
@@ -63,13 +64,13 @@ module _ (schema address : List ℕ) (n : ℕ) (old new : KeeperState) where
     abbrev R : Type 0
     R = ReadFailed (events_in all)
 
-    abbrev W : Type 0
-    W = WriteFailed (events_in all)
+    abbrev E : Type 0
+    E = ErrorsFailed (events_in all)
 
     abbrev L : Type 0
     L = LinkFailed (events_in all)
 
-    pub unread_part : R → (IsReliable a → IsThere schema a.view → ⊥) → status ≡ Run statuses.ReadFault → KeeperGrew old all new → added_in all ≡ [] → LineSaid read_fault_line W (Unit {0}) a b → Part all status a b
+    pub unread_part : R → (IsReliable a → IsThere schema a.view → ⊥) → status ≡ Run statuses.ReadFault → KeeperGrew old all new → added_in all ≡ [] → LineSaid read_fault_line E (Unit {0}) a b → Part all status a b
     unread_part failed lacks is grew none s = record {
       end = kept.stopped statuses.ReadFault;
       status_is = is;
@@ -81,7 +82,7 @@ module _ (schema address : List ℕ) (n : ℕ) (old new : KeeperState) where
       sound = λ reliable (x, (text, has, of), room) f. lacks reliable (text, has);
     }
 
-    pub refused_part : (line : List ℕ) → (job old.entries schema address n).answers a.view (refused line) → status ≡ Run statuses.Refused → KeeperGrew old all new → added_in all ≡ [] → LineSaid line W (Unit {0}) a b → Part all status a b
+    pub refused_part : (line : List ℕ) → (job old.entries schema address n).answers a.view (refused line) → status ≡ Run statuses.Refused → KeeperGrew old all new → added_in all ≡ [] → LineSaid line E (Unit {0}) a b → Part all status a b
     refused_part line answers is grew none s = record {
       end = kept.stopped statuses.Refused;
       status_is = is;
@@ -93,7 +94,7 @@ module _ (schema address : List ℕ) (n : ℕ) (old new : KeeperState) where
       sound = λ reliable fits f. refused_sound f;
     }
 
-    pub keeper_part : HasProfile a.view.files schema → Happened IsKeeperFault all → ¬ IsSure old → status ≡ KeepFault → LineSaid keep_fault_line W (Unit {0}) a b → Part all status a b
+    pub keeper_part : HasProfile a.view.files schema → Happened IsKeeperFault all → ¬ IsSure old → status ≡ KeepFault → LineSaid keep_fault_line E (Unit {0}) a b → Part all status a b
     keeper_part h fault unsound is s = record {
       end = kept.keeper_failed;
       status_is = is;
@@ -107,11 +108,11 @@ module _ (schema address : List ℕ) (n : ℕ) (old new : KeeperState) where
 
     -- ---- memory ran out after that
 
-    module _ (is : status ≡ Run statuses.Memory) (m : Outside) (told : LineSaid memory_line W (Unit {0}) m b) where
-      pub memory_told : TellsLine W memory_line m.view b.view
+    module _ (is : status ≡ Run statuses.Memory) (m : Outside) (told : LineSaid memory_line E (Unit {0}) m b) where
+      pub memory_told : TellsLine E memory_line m.view b.view
       memory_told = (told.output, told.tells tt)
 
-      pub memory_part : (beside b.view ≡ beside a.view) ⊎ HasProfile a.view.files schema → Ended (job old.entries schema address n) R W L statuses.Memory a.view b.view → Part all status a b
+      pub memory_part : (beside b.view ≡ beside a.view) ⊎ HasProfile a.view.files schema → Ended (job old.entries schema address n) (events_in all) statuses.Memory a.view b.view → Part all status a b
       memory_part spares ends = record {
         end = kept.stopped statuses.Memory;
         status_is = is;
@@ -123,7 +124,7 @@ module _ (schema address : List ℕ) (n : ℕ) (old new : KeeperState) where
         sound = λ reliable fits f. memory_sound f;
       }
 
-      tells_first : errors_of m ≡ errors_of a → Tells W memory_line m.view b.view → Tells W memory_line a.view b.view
+      tells_first : errors_of m ≡ errors_of a → Tells E memory_line m.view b.view → Tells E memory_line a.view b.view
       tells_first same (inl whole) = inl (whole ∙ ap (λ (l : List ℕ). l ++ memory_line) same)
       tells_first same (inr (failed, part)) = inr (failed, subst (λ (l : List ℕ). AddsPrefix l (errors_of b) memory_line) same part)
 

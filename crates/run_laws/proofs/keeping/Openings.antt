@@ -28,7 +28,7 @@ use Rattle.serve_rooms.specs.declared.status.KeptStatus.{KeptStatus}
 use Rattle.serve_rooms.specs.declared.status.KeptStatus.TheVariants.{KeepFault, Run}
 use Rattle.serve_rooms.proofs.Acting.{events_hosted, events_more}
 use Rattle.serve_rooms.proofs.AnsweredBytes.{added_more, fits_none, nothing_added}
-use Rattle.run_laws.specs.Ended.{ReadFailed, WriteFailed}
+use Rattle.run_laws.specs.Ended.{ErrorsFailed, ReadFailed}
 use Rattle.run_laws.proofs.serving.Beginnings.{Seam, within, past, seam, hosted_both, nothing_after, some_more, tails}
 use Rattle.run_laws.proofs.keeping.Entries.{starts_or_bad}
 use Rattle.run_laws.proofs.serving.Loads as loads
@@ -77,9 +77,9 @@ module _ (entries : Option (List Entry)) (schema address : List ℕ) (n : ℕ) w
   -- what a run came to, or its first part
   pub data KeepCame (Sound : Type 0) (t u : List Act) (r : KeptStatus) (a b : Outside) : Type 0 where
     silent : 0 < length u → Untouched a b → KeepCame Sound t u r a b
-    no_schema : ReadFailed (events_in t) → (IsReliable a → IsThere schema a.view → ⊥) → r ≡ Run statuses.ReadFault → added_in t ≡ [] → LineSaid read_fault_line (WriteFailed (events_in t)) (u ≡ []) a b → KeepCame Sound t u r a b
-    refusal : (line : List ℕ) → job.answers a.view (refused line) → r ≡ Run statuses.Refused → added_in t ≡ [] → LineSaid line (WriteFailed (events_in t)) (u ≡ []) a b → KeepCame Sound t u r a b
-    no_entries : HasProfile a.view.files schema → Happened IsKeeperFault t → ¬ Sound → r ≡ KeepFault → LineSaid keep_fault_line (WriteFailed (events_in t)) (u ≡ []) a b → KeepCame Sound t u r a b
+    no_schema : ReadFailed (events_in t) → (IsReliable a → IsThere schema a.view → ⊥) → r ≡ Run statuses.ReadFault → added_in t ≡ [] → LineSaid read_fault_line (ErrorsFailed (events_in t)) (u ≡ []) a b → KeepCame Sound t u r a b
+    refusal : (line : List ℕ) → job.answers a.view (refused line) → r ≡ Run statuses.Refused → added_in t ≡ [] → LineSaid line (ErrorsFailed (events_in t)) (u ≡ []) a b → KeepCame Sound t u r a b
+    no_entries : HasProfile a.view.files schema → Happened IsKeeperFault t → ¬ Sound → r ≡ KeepFault → LineSaid keep_fault_line (ErrorsFailed (events_in t)) (u ≡ []) a b → KeepCame Sound t u r a b
     serving : (h : HasProfile a.view.files schema) (s : ServerState) → Starts entries s → (first : List Event) (rest : List Act) (m : Outside) → t ≡ map (λ e. hosted e) first ++ loaded (rebuilds s) ∷ rest
         → Untouched a m → Fits first a m → Fits (events_in rest) m b → ServesAll address n s h.p (rest ++ u) r → KeepCame Sound t u r a b
 
@@ -94,11 +94,11 @@ module _ (entries : Option (List Entry)) (schema address : List ℕ) (n : ℕ) w
         added_are : added_in t ≡ added_in rest
         added_are = ap added_in is ∙ added_more (map (λ e. hosted e) first) (loaded by ∷ rest) ∙ ap (λ (l : List Entry). l ++ added_in rest) (nothing_added (map (λ e. hosted e) first) first refl)
 
-        wrote : WriteFailed (events_in rest) → WriteFailed (events_in t)
-        wrote x = subst WriteFailed (sym events_are) (happened_last _ first (events_in rest) x)
+        wrote : ErrorsFailed (events_in rest) → ErrorsFailed (events_in t)
+        wrote x = subst ErrorsFailed (sym events_are) (happened_last _ first (events_in rest) x)
 
-        said : (line : List ℕ) → LineSaid line (WriteFailed (events_in rest)) (events_in u ≡ []) m b → LineSaid line (WriteFailed (events_in t)) (u ≡ []) a b
-        said line s = said_after line (WriteFailed (events_in rest)) (WriteFailed (events_in t)) (events_in u ≡ []) (u ≡ []) wrote (λ none. ap events_in none) a m b same s
+        said : (line : List ℕ) → LineSaid line (ErrorsFailed (events_in rest)) (events_in u ≡ []) m b → LineSaid line (ErrorsFailed (events_in t)) (u ≡ []) a b
+        said line s = said_after line (ErrorsFailed (events_in rest)) (ErrorsFailed (events_in t)) (events_in u ≡ []) (u ≡ []) wrote (λ none. ap events_in none) a m b same s
 
         -- an entry isn't accepted
         bad_came : (k : ℕ) → IsBadEntry entries k → Last (Tells (bad_entry_line k) statuses.Refused) (rest ++ u) r → KeepCame Sound t u r a b

@@ -19,7 +19,7 @@ use Rattle.serve_rooms.specs.declared.status.KeptStatus.TheVariants.{Run}
 use Rattle.serve_rooms.proofs.Acting.{events_more}
 use Rattle.serve_rooms.proofs.AnsweredBytes.{fits_parts}
 use Rattle.serve_rooms.proofs.ServeLaws.{keep_touches}
-use Rattle.run_laws.specs.Ended.{IsShown, ReadFailed, WriteFailed}
+use Rattle.run_laws.specs.Ended.{ErrorsFailed, IsShown, ReadFailed}
 use Rattle.run_laws.specs.Kept.{IsKeeperEnd, KeepEnds}
 use Rattle.run_laws.proofs.serving.Beginnings.{hosted_events}
 use Rattle.run_laws.proofs.keeping.Ending.{Part, keeper_memory, keeper_part, refused_memory, refused_part, silent_memory, unread_memory, unread_part}
@@ -33,7 +33,7 @@ module _ (schema address : List ℕ) (n : ℕ) (old new : KeeperState) where
   -- the work was done
   module _ (all : List Act) (status : KeptStatus) (a b : Outside) (shown : IsShown a.view) (grew : KeeperGrew old all new) (f : Fits (events_in all) a b) where
     -- what was said, whatever follows of it
-    said_whole : (line : List ℕ) → LineSaid line (WriteFailed (events_in all)) (◌≡◌ {A = List Act} [] []) a b → LineSaid line (WriteFailed (events_in all)) (Unit {0}) a b
+    said_whole : (line : List ℕ) → LineSaid line (ErrorsFailed (events_in all)) (◌≡◌ {A = List Act} [] []) a b → LineSaid line (ErrorsFailed (events_in all)) (Unit {0}) a b
     said_whole line s = record { rest = s.rest; output = s.output; errors = s.errors; tells = λ x. s.tells refl }
 
     done_part : KeepCame old.entries schema address n (IsSure old) all [] status a b → Part schema address n old new all status a b
@@ -48,16 +48,16 @@ module _ (schema address : List ℕ) (n : ℕ) (old new : KeeperState) where
         done_part (keep_came old.entries schema address n (IsSure old) old.room all [] status a b (subst (λ (l : List Act). keeps schema address n l status) (sym (append-nil all)) x) f grew.agrees)
 
   -- memory ran out
-  module _ (all t last : List Act) (status : KeptStatus) (a m b : Outside) (shown : IsShown a.view) (grew : KeeperGrew old all new) (splits : all ≡ t ++ last) (is : status ≡ Run statuses.Memory) (told : LineSaid memory_line (WriteFailed (events_in all)) (Unit {0}) m b) (f : Fits (events_in t) a m) where
+  module _ (all t last : List Act) (status : KeptStatus) (a m b : Outside) (shown : IsShown a.view) (grew : KeeperGrew old all new) (splits : all ≡ t ++ last) (is : status ≡ Run statuses.Memory) (told : LineSaid memory_line (ErrorsFailed (events_in all)) (Unit {0}) m b) (f : Fits (events_in t) a m) where
     read_first : ReadFailed (events_in t) → ReadFailed (events_in all)
     read_first x = subst (λ (l : List Act). ReadFailed (events_in l)) (sym splits) (subst ReadFailed (sym (events_more t last)) (happened_first _ (events_in t) (events_in last) x))
 
     memory_by : (u : List Act) (r : KeptStatus) → KeepCame old.entries schema address n (IsSure old) t u r a m → Part schema address n old new all status a b
     memory_by u r (silent go same) = silent_memory schema address n old new all status a b is m told same
-    memory_by u r (no_schema failed lacks at added s) = unread_memory schema address n old new all status a b is m told (WriteFailed (events_in t)) (u ≡ []) (read_first failed) s
-    memory_by u r (refusal line answers at added s) = refused_memory schema address n old new all status a b is m told (WriteFailed (events_in t)) (u ≡ []) line answers s
+    memory_by u r (no_schema failed lacks at added s) = unread_memory schema address n old new all status a b is m told (ErrorsFailed (events_in t)) (u ≡ []) (read_first failed) s
+    memory_by u r (refusal line answers at added s) = refused_memory schema address n old new all status a b is m told (ErrorsFailed (events_in t)) (u ≡ []) line answers s
     memory_by u r (no_entries h fault unsound at s) =
-        keeper_memory schema address n old new all status a b is m told (WriteFailed (events_in t)) (u ≡ []) h (subst (Happened IsKeeperFault) (sym splits) (happened_first IsKeeperFault t last fault)) unsound s
+        keeper_memory schema address n old new all status a b is m told (ErrorsFailed (events_in t)) (u ≡ []) h (subst (Happened IsKeeperFault) (sym splits) (happened_first IsKeeperFault t last fault)) unsound s
     memory_by u r (serving h s starts first rest k at same g j x) = serving_memory schema address n old new all t last status a m b shown grew splits is told h s starts first rest k at same g j u r x
 
     memory_ends : BeginsKept (keeps schema address n) t → Part schema address n old new all status a b
@@ -75,12 +75,12 @@ module _ (schema address : List ℕ) (n : ℕ) (old new : KeeperState) where
         let line : Hosted (Tells memory_line x.between) x.rest y.between = subst (λ (l : List Act). Hosted (Tells memory_line x.between) l y.between) (sym all) y.does in
         let events : events_in x.rest ≡ line.0 = hosted_events x.rest line.0 line.1 in
         let so = tells_said memory_line x.between y.between (events_in x.rest) [] parts.0 b (subst (λ (l : List Event). Tells memory_line x.between l y.between) (sym (append-nil (events_in x.rest) ∙ events)) line.2) parts.2 in
-        let later : WriteFailed (events_in x.rest) → WriteFailed (events_in t) = λ w. subst (λ (l : List Act). WriteFailed (events_in l)) (sym x.splits) (subst WriteFailed (sym (events_more x.first x.rest)) (happened_last _ (events_in x.first) (events_in x.rest) w)) in
-        let told : LineSaid memory_line (WriteFailed (events_in t)) (Unit {0}) parts.0 b = record {
+        let later : ErrorsFailed (events_in x.rest) → ErrorsFailed (events_in t) = λ w. subst (λ (l : List Act). ErrorsFailed (events_in l)) (sym x.splits) (subst ErrorsFailed (sym (events_more x.first x.rest)) (happened_last _ (events_in x.first) (events_in x.rest) w)) in
+        let told : LineSaid memory_line (ErrorsFailed (events_in t)) (Unit {0}) parts.0 b = record {
           rest = so.rest;
           output = so.output;
           errors = so.errors;
-          tells = λ z. elim (so.tells refl) as (λ q. telling.Tells (WriteFailed (events_in t)) memory_line parts.0.view b.view) [ inl whole ↦ inl whole | inr failed ↦ inr (later failed.0, failed.1) ];
+          tells = λ z. elim (so.tells refl) as (λ q. telling.Tells (ErrorsFailed (events_in t)) memory_line parts.0.view b.view) [ inl whole ↦ inl whole | inr failed ↦ inr (later failed.0, failed.1) ];
         } in
         let status_is : status ≡ Run statuses.Memory = y.goes.1 ∙ ap (λ (s : Status). Run s) (told_status memory_line x.between line.0 y.between line.2 ∙ x.does.1) in
         memory_ends t x.first x.rest status a parts.0 b shown grew x.splits status_is told parts.1 x.does.0

@@ -1,5 +1,5 @@
 -- How a run of `keep` ends whose keeper's entries were read: its sessions, and what is kept of them.
-use Rattle.std.proofs.Common.{◌≡◌, inl, inr, ℕ, ◌<◌, ◌≤◌, List, [], ◌∷◌, ◌++◌, append-nil, drop, get_or, length, map, Bool, true, false, Option, Some, refl, sym, ap, ◌∙◌, subst, arith}
+use Rattle.std.proofs.Common.{◌≡◌, inl, inr, ℕ, ◌<◌, ◌≤◌, List, [], ◌∷◌, ◌++◌, append-nil, drop, get_or, length, map, true, Option, Some, refl, sym, ap, ◌∙◌, subst, arith}
 use Rattle.tl_numbers.specs.Bytes.{ListsOfBytes}
 use Rattle.tl_base.specs.Outside.{View, left_of}
 use Rattle.tl_base.specs.declared.counts.Kind.TheVariants as kinds
@@ -14,7 +14,7 @@ use Rattle.outside.specs.Jobs.{WritesSomeOf}
 use Rattle.outside.specs.Kept.{AddsPrefix, Leaves}
 use Rattle.outside.specs.Sound as sound
 use Rattle.outside.specs.Sound.{IsFault}
-use Rattle.outside.specs.Telling.{Tells}
+use Rattle.outside.specs.Telling.{TellsLine}
 use Rattle.outside.specs.declared.status.Status.{Status}
 use Rattle.outside.specs.declared.status.Status.TheVariants as statuses
 use Rattle.fault_lines.specs.Profiled.{HasProfile}
@@ -28,7 +28,6 @@ use Rattle.outside.proofs.Fitting.{fits_keeps, reliable_on}
 use Rattle.update_sessions.specs.Kept.{KeeperBroke, kept_in}
 use Rattle.session_commands.specs.Keep.{KeepsFirst, RoomForAll, RoomForRun, SessionsBy, Starts, told_job}
 use Rattle.session_commands.specs.Serve.{Total, no_sessions, total_answer}
-use Rattle.session_commands.specs.inner.Serving.{GoesOn}
 use Rattle.session_commands.proofs.ServeRuns.{at_zero}
 use Rattle.session_rooms.proofs.LeftViews.{beside, leaves_later}
 use Rattle.serve_rooms.specs.Acts.{Act, AgreesAll, IsKeeperFault, IsSure, KeeperGrew, hosted, loaded, rebuilds, events_in}
@@ -40,49 +39,29 @@ use Rattle.serve_rooms.specs.declared.status.KeptStatus.TheVariants.{KeepFault, 
 use Rattle.serve_rooms.specs.declared.telling.Tally.{Tally}
 use Rattle.serve_rooms.proofs.Acting.{events_hosted, events_more}
 use Rattle.serve_rooms.proofs.AnsweredBytes.{added_more, nothing_added, sessions_answer}
-use Rattle.run_laws.specs.Ended.{IsShown, LinkFailed, WriteFailed}
+use Rattle.run_laws.specs.Ended.{ErrorsFailed, IsShown, IsUntold, LinkFailed, WriteFailed}
 use Rattle.run_laws.specs.Ended as ending
 use Rattle.run_laws.specs.Kept as kept
 use Rattle.run_laws.proofs.serving.AllCame.{AllCame, Given, KeeperLost, LoopCame, Stopped, begun, listening, not_yet, served_all, served_so, unkept, unlinked, unlistened, unwritten, all_came, so_given}
 use Rattle.run_laws.proofs.keeping.Ending.{Part, memory_part, memory_told}
 use Rattle.run_laws.proofs.keeping.Entries.{full_where, grown_entries}
 use Rattle.run_laws.proofs.keeping.Jobs.{any_before, any_by, by_before, fits_later, keeps_some, may_answer, part_given, sessions_fit}
-use Rattle.run_laws.proofs.serving.Lines.{LineEnd, LineSo, so_prefix}
-use Rattle.run_laws.proofs.serving.Loads.{LineSaid, Untouched, errors_of, output_of}
+use Rattle.run_laws.proofs.serving.Lines.{LineEnd, errors_of, output_of}
+use Rattle.run_laws.proofs.serving.Loads.{LineSaid, Untouched}
 use Rattle.run_laws.proofs.keeping.Openings.{agrees_first, job}
 use Rattle.run_laws.proofs.keeping.Rooms.{never_full}
+use Rattle.run_laws.proofs.serving.ServeEnds.{line_done, line_part, lines_tell, tells_on}
 use Rattle.run_laws.proofs.serving.SoFar.{SoFar, by_failed}
 use Rattle.run_laws.proofs.serving.ToldLines.{lines_prefix}
 use Rattle.run_laws.proofs.serving.Unfailing.{sessions_sound}
 
--- ---- lines
-
-by_line : {A : Type 0} (W : Type 0) (line : List ℕ) (x : A) (u : List Act) (r : A) (m b : Outside) → u ≡ [] → LineSo ((u ≡ []) × (r ≡ x)) (0 < length u) W line m b → (r ≡ x) × Tells W line m.view b.view
-by_line W line x u r m b none (inl (ends, tells)) = (ends.1, tells)
-by_line W line x u r m b none (inr (more, part)) = absurd (omega (arith, more, ap length none))
-
-line_done : {A : Type 0} (W : Type 0) (line : List ℕ) (x : A) (r : A) (m b : Outside) → LineEnd W line x [] r m b → (r ≡ x) × Tells W line m.view b.view
-line_done W line x r m b h = by_line W line x [] r m b refl h.line_is
-
-line_part : {A : Type 0} (W : Type 0) (line : List ℕ) (x : A) (u : List Act) (r : A) (m b : Outside) → LineEnd W line x u r m b → AddsPrefix m.view.written.errors b.view.written.errors line
-line_part W line x u r m b h = so_prefix ((u ≡ []) × (r ≡ x)) (0 < length u) W line m b h.line_is
-
-tells_by : (W V : Type 0) → (W → V) → (line : List ℕ) (v w : View) → Tells W line v w → Tells V line v w
-tells_by W V into line v w (inl whole) = inl whole
-tells_by W V into line v w (inr (failed, part)) = inr (into failed, part)
-
--- all lines, as they stand on Errors
-lines_tell : (W : Type 0) (whole : Bool) (line x : List ℕ) (v w : View) → x ≡ v.written.errors → (whole ≡ false → W) → GoesOn true whole x w.written.errors line → Tells W line v w
-lines_tell W true line x v w same torn h = inl (h ∙ ap (λ (l : List ℕ). l ++ line) same)
-lines_tell W false line x v w same torn h = inr (torn refl, subst (λ (l : List ℕ). AddsPrefix l w.written.errors line) same h)
-
 -- ---- a run whose keeper's entries rebuilt a server
 
 module _ (schema address : List ℕ) (n : ℕ) (old new : KeeperState) (all t : List Act) (status : KeptStatus) (a b m : Outside) (shown : IsShown a.view) (grew : KeeperGrew old all new) (h : HasProfile a.view.files schema) (s : ServerState) (starts : Starts old.entries s)
-    (events : List Event) (rest : List Act) (is : t ≡ map (λ e. hosted e) events ++ loaded (rebuilds s) ∷ rest) (same : Untouched a m) (loads : Fits events a m) (link_lift : LinkFailed (events_in rest) → LinkFailed (events_in all)) (write_lift : WriteFailed (events_in rest) → WriteFailed (events_in all))
+    (events : List Event) (rest : List Act) (is : t ≡ map (λ e. hosted e) events ++ loaded (rebuilds s) ∷ rest) (same : Untouched a m) (loads : Fits events a m) (lift : (P : Event → Type 0) → Happened P (events_in rest) → Happened P (events_in all))
     (fault_lift : Happened IsKeeperFault rest → Happened IsKeeperFault all) (agrees : AgreesAll (IsSure old) old.room old.entries t) where
-  abbrev W : Type 0
-  W = WriteFailed (events_in all)
+  abbrev E : Type 0
+  E = ErrorsFailed (events_in all)
 
   abbrev L : Type 0
   L = LinkFailed (events_in all)
@@ -118,7 +97,7 @@ module _ (schema address : List ℕ) (n : ℕ) (old new : KeeperState) (all t : 
     number = x.number;
     few = x.few;
     total = x.total;
-    by = by_before h.p a m same (LinkFailed (events_in rest)) L link_lift s x.number x.total (by_failed h.p s n R v x.number x.total rest x.sessions x.whole);
+    by = by_before h.p a m same (LinkFailed (events_in rest)) L (lift (IsFailure kinds.Links)) s x.number x.total (by_failed h.p s n R v x.number x.total rest x.sessions x.whole);
     entries = x.entries;
     output = from_start (λ (z : View). z.written.output) (output_of j) x.total.output same.output x.output;
     errors = from_start (λ (z : View). z.written.errors) (errors_of j) x.total.errors same.errors x.errors;
@@ -221,14 +200,14 @@ module _ (schema address : List ℕ) (n : ℕ) (old new : KeeperState) (all t : 
     served_part : (server : ServerState) (tally : Tally) → status ≡ Run tally.status → SoFar h.p s n R v n server tally rest b → Part schema address n old new all status a b
     served_part server tally ends so =
         let total = so.total in
-        let by : SessionsBy L h.p s a.view.links a.view.moments n total = by_before h.p a m same (LinkFailed (events_in rest)) L link_lift s n total (by_failed h.p s n R v n total rest so.sessions so.whole) in
+        let by : SessionsBy L h.p s a.view.links a.view.moments n total = by_before h.p a m same (LinkFailed (events_in rest)) L (lift (IsFailure kinds.Links)) s n total (by_failed h.p s n R v n total rest so.sessions so.whole) in
         let left : Leaves (total_answer address n total) m.view b.view =
         record { files = so.leaves.files; moments = so.leaves.moments; coming = so.leaves.coming; state_name = so.leaves.state_name; state = so.leaves.state; links = so.leaves.links; address = so.leaves.address } in
         record {
           end = kept.served tally.status;
           status_is = ends;
           ends = ending.answered (total_answer address n total) (may_answer old.entries schema address n a.view h s starts L total by) so.status (so.output ∙ ap (λ (l : List ℕ). l ++ total.output) same.output) (leaves_later (total_answer address n total) a.view m.view b.view same.rest left)
-              (lines_tell W tally.whole total.errors m.view.written.errors a.view b.view same.errors (λ torn. write_lift (so.torn torn)) so.lines);
+              (lines_tell E tally.whole total.errors m.view.written.errors a.view b.view (sym same.errors) (λ torn. lift IsUntold (so.torn torn)) so.lines);
           entries = (h, s, starts, keeps_some old.entries schema address n a.view h s starts L new.entries b.view n total shown.moments by (so.leaves.links ∙ ap (λ (z : View). z.written.links ++ total.sent) same.rest) (λ some. so.leaves.address) (new_entries whole total so.entries));
           fault = λ f. absurd f;
           never = λ es at sure room f. f;
@@ -236,13 +215,13 @@ module _ (schema address : List ℕ) (n : ℕ) (old new : KeeperState) (all t : 
           sound = λ reliable fits fault. unfailing tally.status ends reliable fits fault;
         }
 
-    unlinked_part : (j : Outside) → Few j → LinkFailed (events_in rest) → LineEnd (WriteFailed (events_in rest)) link_fault_line (Run statuses.LinkFault) [] status j b → Part schema address n old new all status a b
+    unlinked_part : (j : Outside) → Few j → LinkFailed (events_in rest) → LineEnd (ErrorsFailed (events_in rest)) link_fault_line (Run statuses.LinkFault) [] status j b → Part schema address n old new all status a b
     unlinked_part j x failed line =
-        let ends = line_done (WriteFailed (events_in rest)) link_fault_line (Run statuses.LinkFault) status j b line in
+        let ends = line_done (ErrorsFailed (events_in rest)) link_fault_line (Run statuses.LinkFault) status j b line in
         record {
           end = kept.stopped statuses.LinkFault;
           status_is = ends.0;
-          ends = ending.link_failed (link_lift failed) refl (record { stopped = j.view; given = few_given j x; told = (line.on.output, tells_by (WriteFailed (events_in rest)) W write_lift link_fault_line j.view b.view ends.1) });
+          ends = ending.link_failed (lift (IsFailure kinds.Links) failed) refl (record { stopped = j.view; given = few_given j x; told = (line.on.output, tells_on (ErrorsFailed (events_in rest)) E (lift IsUntold) link_fault_line j.view b.view ends.1.1) });
           entries = (h, s, starts, few_kept whole j x line.on.rest);
           fault = λ f. absurd f;
           never = λ es at sure room f. f;
@@ -250,13 +229,13 @@ module _ (schema address : List ℕ) (n : ℕ) (old new : KeeperState) (all t : 
           sound = λ reliable fits fault. unfailing statuses.LinkFault ends.0 reliable fits fault;
         }
 
-    unwritten_part : (j : Outside) → Few j → WriteFailed (events_in rest) → LineEnd (WriteFailed (events_in rest)) write_fault_line (Run statuses.WriteFault) [] status j b → Part schema address n old new all status a b
+    unwritten_part : (j : Outside) → Few j → WriteFailed (events_in rest) → LineEnd (ErrorsFailed (events_in rest)) write_fault_line (Run statuses.WriteFault) [] status j b → Part schema address n old new all status a b
     unwritten_part j x failed line =
-        let ends = line_done (WriteFailed (events_in rest)) write_fault_line (Run statuses.WriteFault) status j b line in
+        let ends = line_done (ErrorsFailed (events_in rest)) write_fault_line (Run statuses.WriteFault) status j b line in
         record {
           end = kept.stopped statuses.WriteFault;
           status_is = ends.0;
-          ends = ending.write_failed (write_lift failed) refl (record { stopped = j.view; given = few_given j x; told = (line.on.output, tells_by (WriteFailed (events_in rest)) W write_lift write_fault_line j.view b.view ends.1) });
+          ends = ending.write_failed (lift (IsFailure kinds.Writes) failed) refl (record { stopped = j.view; given = few_given j x; told = (line.on.output, tells_on (ErrorsFailed (events_in rest)) E (lift IsUntold) write_fault_line j.view b.view ends.1.1) });
           entries = (h, s, starts, few_kept whole j x line.on.rest);
           fault = λ f. absurd f;
           never = λ es at sure room f. f;
@@ -264,13 +243,13 @@ module _ (schema address : List ℕ) (n : ℕ) (old new : KeeperState) (all t : 
           sound = λ reliable fits fault. unfailing statuses.WriteFault ends.0 reliable fits fault;
         }
 
-    unkept_part : (j : Outside) → KeeperLost h.p s n R v rest j → LineEnd (WriteFailed (events_in rest)) keep_fault_line KeepFault [] status j b → Part schema address n old new all status a b
+    unkept_part : (j : Outside) → KeeperLost h.p s n R v rest j → LineEnd (ErrorsFailed (events_in rest)) keep_fault_line KeepFault [] status j b → Part schema address n old new all status a b
     unkept_part j x line =
-        let ends = line_done (WriteFailed (events_in rest)) keep_fault_line KeepFault status j b line in
+        let ends = line_done (ErrorsFailed (events_in rest)) keep_fault_line KeepFault status j b line in
         record {
           end = kept.keeper_failed;
           status_is = ends.0;
-          ends = record { stopped = j.view; given = lost_given j x; told = (line.on.output, tells_by (WriteFailed (events_in rest)) W write_lift keep_fault_line j.view b.view ends.1) };
+          ends = record { stopped = j.view; given = lost_given j x; told = (line.on.output, tells_on (ErrorsFailed (events_in rest)) E (lift IsUntold) keep_fault_line j.view b.view ends.1.1) };
           entries = h;
           fault = λ f. lost_fault j x;
           never = λ es at sure room f. lost_never j x es at sure room;
@@ -292,28 +271,28 @@ module _ (schema address : List ℕ) (n : ℕ) (old new : KeeperState) (all t : 
 
   -- ---- memory ran out
 
-  module _ (u : List Act) (r : KeptStatus) (k : Outside) (ends : status ≡ Run statuses.Memory) (told : LineSaid memory_line W (Unit {0}) k b) where
+  module _ (u : List Act) (r : KeptStatus) (k : Outside) (ends : status ≡ Run statuses.Memory) (told : LineSaid memory_line E (Unit {0}) k b) where
     later_memory : WritesSomeOf (job old.entries schema address n) L a.view k.view → Part schema address n old new all status a b
     later_memory given =
         memory_part schema address n old new all status a b ends k told (inr h) (ending.out_of_memory_later refl (record { stopped = k.view; given = given; told = memory_told schema address n old new all status a b ends k told }) tt)
 
-    told_memory : (line : List ℕ) → ending.IsFaultLine (ending.ReadFailed (events_in all)) W L line → (j : Outside) → WritesSomeOf (job old.entries schema address n) L a.view j.view → output_of k ≡ output_of j → AddsPrefix (errors_of j) (errors_of k) line → Part schema address n old new all status a b
-    told_memory line fault j given output part =
+    told_memory : (line : List ℕ) → ending.IsFaultLine (events_in all) line → (j : Outside) → WritesSomeOf (job old.entries schema address n) L a.view j.view → TellsLine (Unit {0}) line j.view k.view → Part schema address n old new all status a b
+    told_memory line fault j given said =
         memory_part schema address n old new all status a b ends k told (inr h)
-        (ending.out_of_memory_told refl k.view (record { line = line; fault = fault; stopped = j.view; given = inr given; told = (output, inr (tt, part)) }) (memory_told schema address n old new all status a b ends k told) tt)
+        (ending.out_of_memory_told refl k.view (record { line = line; fault = fault; stopped = j.view; given = inr given; told = said }) (memory_told schema address n old new all status a b ends k told) tt)
 
     loop_memory : LoopCame h.p s n R v rest u r k → Part schema address n old new all status a b
     loop_memory (served_all server tally none ended so) = later_memory (given_some k (so_given h.p s n R v n server tally rest k (omega arith) so))
     loop_memory (unlinked j x failed few line) =
-        told_memory link_fault_line (inr (inr (link_lift failed, refl))) j (few_given j (few_stopped j x)) line.on.output (line_part (WriteFailed (events_in rest)) link_fault_line (Run statuses.LinkFault) u r j k line)
+        told_memory link_fault_line (inr (inr (lift (IsFailure kinds.Links) failed, refl))) j (few_given j (few_stopped j x)) (line_part (ErrorsFailed (events_in rest)) link_fault_line (Run statuses.LinkFault) u r j k line)
     loop_memory (unwritten j x failed full line) =
-        told_memory write_fault_line (inr (inl (write_lift failed, refl))) j (few_given j (few_stopped j x)) line.on.output (line_part (WriteFailed (events_in rest)) write_fault_line (Run statuses.WriteFault) u r j k line)
+        told_memory write_fault_line (inr (inl (lift (IsFailure kinds.Writes) failed, refl))) j (few_given j (few_stopped j x)) (line_part (ErrorsFailed (events_in rest)) write_fault_line (Run statuses.WriteFault) u r j k line)
     loop_memory (unkept j x line) = record {
       end = kept.keeper_untold;
       status_is = ends;
       ends = (
         k.view,
-        record { stopped = j.view; given = lost_given j x; told = (line.on.output, inr (tt, line_part (WriteFailed (events_in rest)) keep_fault_line KeepFault u r j k line)) },
+        record { stopped = j.view; given = lost_given j x; told = line_part (ErrorsFailed (events_in rest)) keep_fault_line KeepFault u r j k line },
         memory_told schema address n old new all status a b ends k told,
       );
       entries = h;
@@ -335,7 +314,7 @@ module _ (schema address : List ℕ) (n : ℕ) (old new : KeeperState) (all t : 
           errors = ([], [], refl, quiet.errors ∙ sym (append-nil (errors_of m)));
         }))
     all_memory (unlistened j view none failed full line) =
-        told_memory link_fault_line (inr (inr (link_lift failed, refl))) j (few_given j (few_none j view none)) line.on.output (line_part (WriteFailed (events_in rest)) link_fault_line (Run statuses.LinkFault) u r j k line)
+        told_memory link_fault_line (inr (inr (lift (IsFailure kinds.Links) failed, refl))) j (few_given j (few_none j view none)) (line_part (ErrorsFailed (events_in rest)) link_fault_line (Run statuses.LinkFault) u r j k line)
     all_memory (served_so came) = loop_memory came
 
 -- ---- the run
@@ -355,15 +334,15 @@ module _ (schema address : List ℕ) (n : ℕ) (old new : KeeperState) where
   pub serving_part : (all : List Act) (status : KeptStatus) (a b : Outside) → IsShown a.view → KeeperGrew old all new → (h : HasProfile a.view.files schema) (s : ServerState) → Starts old.entries s → (first : List Event) (rest : List Act) (m : Outside)
       → all ≡ map (λ e. hosted e) first ++ loaded (rebuilds s) ∷ rest → Untouched a m → Fits first a m → Fits (events_in rest) m b → ServesAll address n s h.p (rest ++ []) status → Part schema address n old new all status a b
   serving_part all status a b shown grew h s starts first rest m is same g k x =
-      all_part schema address n old new all all status a b m shown grew h s starts first rest is same g (lift_events (IsFailure kinds.Links) all first s rest is) (lift_events (IsFailure kinds.Writes) all first s rest is) (lift_fault all first s rest is) grew.agrees refl
-      (all_sound schema address n old new all all status a b m shown grew h s starts first rest is same g (lift_events (IsFailure kinds.Links) all first s rest is) (lift_events (IsFailure kinds.Writes) all first s rest is) (lift_fault all first s rest is) grew.agrees
+      all_part schema address n old new all all status a b m shown grew h s starts first rest is same g (λ P. lift_events P all first s rest is) (lift_fault all first s rest is) grew.agrees refl
+      (all_sound schema address n old new all all status a b m shown grew h s starts first rest is same g (λ P. lift_events P all first s rest is) (lift_fault all first s rest is) grew.agrees
       (all_came h.p address n s rest [] status m b x k))
       (all_came h.p address n s rest [] status m b x k)
 
-  pub serving_memory : (all t last : List Act) (status : KeptStatus) (a m b : Outside) → IsShown a.view → KeeperGrew old all new → all ≡ t ++ last → status ≡ Run statuses.Memory → LineSaid memory_line (WriteFailed (events_in all)) (Unit {0}) m b → (h : HasProfile a.view.files schema) (s : ServerState)
+  pub serving_memory : (all t last : List Act) (status : KeptStatus) (a m b : Outside) → IsShown a.view → KeeperGrew old all new → all ≡ t ++ last → status ≡ Run statuses.Memory → LineSaid memory_line (ErrorsFailed (events_in all)) (Unit {0}) m b → (h : HasProfile a.view.files schema) (s : ServerState)
       → Starts old.entries s → (first : List Event) (rest : List Act) (k : Outside) → t ≡ map (λ e. hosted e) first ++ loaded (rebuilds s) ∷ rest → Untouched a k → Fits first a k → Fits (events_in rest) k m → (u : List Act) (r : KeptStatus) → ServesAll address n s h.p (rest ++ u) r
       → Part schema address n old new all status a b
   serving_memory all t last status a m b shown grew splits ends told h s starts first rest k is same g j u r x =
-      all_memory schema address n old new all t status a b k shown grew h s starts first rest is same g (λ f. lift_first (IsFailure kinds.Links) all t last splits (lift_events (IsFailure kinds.Links) t first s rest is f))
-      (λ f. lift_first (IsFailure kinds.Writes) all t last splits (lift_events (IsFailure kinds.Writes) t first s rest is f)) (λ f. subst (Happened IsKeeperFault) (sym splits) (happened_first IsKeeperFault t last (lift_fault t first s rest is f)))
+      all_memory schema address n old new all t status a b k shown grew h s starts first rest is same g (λ P f. lift_first P all t last splits (lift_events P t first s rest is f))
+      (λ f. subst (Happened IsKeeperFault) (sym splits) (happened_first IsKeeperFault t last (lift_fault t first s rest is f)))
       (agrees_first (IsSure old) old.room old.entries t last (subst (AgreesAll (IsSure old) old.room old.entries) splits grew.agrees)) u r m ends told (all_came h.p address n s rest u r k m x j)

@@ -23,7 +23,7 @@ use Rattle.session_rooms.specs.Client.{after_reading, recovers}
 use Rattle.session_rooms.specs.ClientLaws.{IsOfClient, IsOpenedByClient, IsReadByClient}
 use Rattle.session_rooms.proofs.ClientLaws.{client_has_cause, client_touches}
 use Rattle.session_rooms.proofs.LeftViews.{SparesRest, all_leave}
-use Rattle.run_laws.specs.Ended.{RunEnds, RunKeeps, WriteFailed}
+use Rattle.run_laws.specs.Ended.{ErrorsFailed, RunEnds, RunKeeps}
 use Rattle.run_laws.proofs.links.ClientComing.{client_comes}
 use Rattle.run_laws.proofs.links.Ending.{ends_so, links_only, memory_ends}
 use Rattle.run_laws.proofs.links.PostRuns.{links_kept}
@@ -87,16 +87,16 @@ module _ (schema address name : List ℕ) (channels : List ℤ) where
 
   pub ends : RunEnds (client_job schema address name channels) to_link (recovers schema address name channels)
   ends t r s n shown (runs.out_of_memory h) f = memory_ends (client_job schema address name channels) (recovers schema address name channels) t r s n h f
-  ends t r s n shown (runs.done h) f = ends_so Answers Kept t r s n (client_has_cause schema address name channels t r (runs.done h)) (client_comes (WriteFailed t) schema address name channels t r s n h f (λ x. x)).0
+  ends t r s n shown (runs.done h) f = ends_so Answers Kept t r s n (client_has_cause schema address name channels t r (runs.done h)) (client_comes (ErrorsFailed t) schema address name channels t r s n h f (λ x. x)).0
 
   -- ---- what it leaves
 
   state_kept : (t : List Event) (r : Status) (s n : Outside) → RunsIn to_link (recovers schema address name channels) t r → Fits t s n → LeavesState (Answers s.view) s.view n.view
-  state_kept t r s n (runs.done h) f = (client_comes (WriteFailed t) schema address name channels t r s n h f (λ x. x)).1
+  state_kept t r s n (runs.done h) f = (client_comes (ErrorsFailed t) schema address name channels t r s n h f (λ x. x)).1
   state_kept t r s n (runs.out_of_memory h) f =
       let parts = fits_both h.first h.rest s n (subst (λ (l : List Event). Fits l s n) h.splits f) in
       let kept = links_only h.first s parts.0 h.does.0.only parts.1 in
-      let e = tell_alone (WriteFailed h.rest) memory_line h.between r h.rest parts.0 n h.goes parts.2 (λ x. x) in
+      let e = tell_alone (ErrorsFailed h.rest) memory_line h.between r h.rest parts.0 n h.goes parts.2 (λ x. x) in
       inl (ap (λ (v : View). v.written.state) e.rest ∙ ap (λ k. k.2) kept, ap (λ (v : View). v.state_name) e.rest ∙ ap (λ k. k.3) kept)
 
   pub keeps : RunKeeps (client_job schema address name channels) to_link (recovers schema address name channels)

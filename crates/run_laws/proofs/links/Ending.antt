@@ -24,7 +24,7 @@ use Rattle.session_commands.specs.Linked.{cut_off, linking_job}
 use Rattle.session_rooms.proofs.LeftViews.{all_leave}
 use Rattle.session_rooms.proofs.PostFiles.{output_of}
 use Rattle.run_laws.specs.Ended as forms
-use Rattle.run_laws.specs.Ended.{Ended, LinkFailed, ReadFailed, Stops, WriteFailed}
+use Rattle.run_laws.specs.Ended.{Ended, ErrorsFailed, LinkFailed, StopsIn}
 use Rattle.run_laws.proofs.links.Coming.{Came, gave, unread, cut, out_of_memory, unfinished}
 use Rattle.run_laws.proofs.links.ToldLines.{cause_last, tell_alone, tells_later}
 
@@ -39,16 +39,16 @@ module _ (Answers : View → Answer → Type 0) (Kept : View → View → Type 0
 
   -- a run's end as the job's
   abbrev pub EndsSo : List Event → Status → Outside → Outside → Type 0
-  EndsSo t r s n = Ended job (ReadFailed t) (WriteFailed t) (LinkFailed t) r s.view n.view
+  EndsSo t r s n = Ended job t r s.view n.view
 
   module _ (t : List Event) (r : Status) (s n : Outside) where
-    stops : (line : List ℕ) (a : Answer) → MayGive job (LinkFailed t) s.view a → AddsPrefix (output_of s) (output_of n) a.output → TellsOn (WriteFailed t) line s.view n.view → Stops job (WriteFailed t) (LinkFailed t) line s.view n.view
+    stops : (line : List ℕ) (a : Answer) → MayGive job (LinkFailed t) s.view a → AddsPrefix (output_of s) (output_of n) a.output → TellsOn (ErrorsFailed t) line s.view n.view → StopsIn job t line s.view n.view
     stops line a may p tells = record { stopped = between s.view n.view; given = (a, may, p, inl refl); told = (refl, tells) }
 
     nothing_more : (text : List ℕ) → output_of n ≡ output_of s → AddsPrefix (output_of s) (output_of n) text
     nothing_more text output = ([], text, refl, output ∙ sym (append-nil (output_of s)))
 
-    pub ends_so : Explains r t → Came (Answers s.view) (WriteFailed t) r s n → EndsSo t r s n
+    pub ends_so : Explains r t → Came (Answers s.view) (ErrorsFailed t) r s n → EndsSo t r s n
     ends_so cause (gave a is e gives tells) = forms.answered a (inl is) e gives.output gives.leaves tells
     ends_so cause (unread e output tells) = forms.read_failed (subst (λ (x : Status). Explains x t) e cause) e output tells
     ends_so cause (cut e output tells) =
@@ -87,12 +87,12 @@ pub links_only : (t : List Event) (s n : Outside) → Throughout (WritesOnly to_
 links_only = all_leave apart (WritesOnly to_link) link_only
 
 pub memory_ends : (asked : Job) (work : Step Status) (t : List Event) (r : Status) (s n : Outside) → Then (λ u x. BeginsIn to_link work u × (x ≡ status.Memory)) (Tells memory_line) t r → Fits t s n
-    → Ended asked (ReadFailed t) (WriteFailed t) (LinkFailed t) r s.view n.view
+    → Ended asked t r s.view n.view
 memory_ends asked work t r s n h f =
     let parts = fits_both h.first h.rest s n (subst (λ (l : List Event). Fits l s n) h.splits f) in
     let kept = links_only h.first s parts.0 h.does.0.only parts.1 in
-    let e = tell_alone (WriteFailed t) memory_line h.between r h.rest parts.0 n h.goes parts.2 (cause_last (WriteFailed t) t h.first h.rest h.splits (λ x. x)) in
-    forms.out_of_memory (h.goes.goes.1 ∙ h.does.1) (e.output ∙ ap (λ k. k.0) kept) (tells_later (WriteFailed t) memory_line s parts.0 n (ap (λ k. k.1) kept) e.line_is)
+    let e = tell_alone (ErrorsFailed t) memory_line h.between r h.rest parts.0 n h.goes parts.2 (cause_last (ErrorsFailed t) t h.first h.rest h.splits (λ x. x)) in
+    forms.out_of_memory (h.goes.goes.1 ∙ h.does.1) (e.output ∙ ap (λ k. k.0) kept) (tells_later (ErrorsFailed t) memory_line s parts.0 n (ap (λ k. k.1) kept) e.line_is)
 
 -- ---- statuses that are no fault's
 

@@ -1,5 +1,5 @@
 -- How a run of `post` ends, and what it leaves.
-use Rattle.std.proofs.Common.{◌≡◌, ℕ, List, Option, Some, None, codes, ap, ◌∙◌, subst, inl, inr}
+use Rattle.std.proofs.Common.{ℕ, List, Option, Some, None, codes, ap, ◌∙◌, subst, inl, inr}
 use Rattle.tl_base.specs.Outside.{View}
 use Rattle.tl_base.specs.declared.host.Slot.TheVariants as slots
 use Rattle.tl_schema.specs.Schemas.{Declared}
@@ -8,11 +8,10 @@ use Rattle.outside.specs.Answer.{Answer}
 use Rattle.outside.specs.Kept.{LeavesInput}
 use Rattle.outside.specs.Sound.{HasRoomFor}
 use Rattle.outside.specs.declared.status.Status.{Status}
-use Rattle.outside.specs.declared.status.Status.TheVariants.{Memory, PeerFault, Refused}
+use Rattle.outside.specs.declared.status.Status.TheVariants.{Memory}
 use Rattle.outside.specs.Begun.{to_link}
 use Rattle.outside.specs.Events.{Event, Outside}
 use Rattle.outside.specs.Pieces.{ReadsFile}
-use Rattle.outside.specs.Runs.{RunsIn}
 use Rattle.outside.specs.Runs as runs
 use Rattle.outside.proofs.Causing.{keeps_tell, told_status}
 use Rattle.outside.specs.Fits.{Fits}
@@ -26,16 +25,16 @@ use Rattle.fault_lines.proofs.Profiled.{profile_tells}
 use Rattle.codec_rooms.specs.Typed as typed
 use Rattle.update_commands.specs.Profile.{OfProfile, no_profile, profiled}
 use Rattle.session_commands.specs.Linked.{LeavesLinks, next_link}
-use Rattle.session_commands.specs.Post.{OfInput, Outcome, PostAnswer, PostKeeps, ReachesLink, answer_of, peer, post_job, shows}
-use Rattle.session_commands.specs.Post as answer
+use Rattle.session_commands.specs.Post.{OfInput, PostAnswer, PostKeeps, ReachesLink, post_job}
 use Rattle.session_commands.proofs.OneTotal.{given_bytes}
 use Rattle.session_rooms.specs.Post.{OfInputFile, after_reading, posts}
 use Rattle.session_rooms.proofs.LeftViews.{SparesRest}
 use Rattle.session_rooms.proofs.PostLaws.{post_has_cause}
+use Rattle.session_rooms.proofs.PostFiles.{IsTold}
 use Rattle.session_rooms.proofs.PostLeaving.{post_leaves}
-use Rattle.session_rooms.proofs.PostUnfailing.{post_ends}
-use Rattle.run_laws.specs.Ended.{IsShown, RunEnds, RunKeeps, RunIsSound, RunsJob, WriteFailed}
-use Rattle.run_laws.proofs.links.Ending.{IsSafe, done_safe, ends_so, memory_ends, memory_safe, peer_safe, refusal_safe, refused_safe, safe_as}
+use Rattle.session_rooms.proofs.PostUnfailing.{post_unfailing}
+use Rattle.run_laws.specs.Ended.{ErrorsFailed, IsShown, RunEnds, RunKeeps, RunIsSound, RunsJob}
+use Rattle.run_laws.proofs.links.Ending.{IsSafe, ends_so, memory_ends, memory_safe, refusal_safe, safe_as}
 use Rattle.run_laws.proofs.links.PostComing.{post_comes}
 use Rattle.run_laws.proofs.links.Reaching.{Reach, at_schema, at_file, at_link, run_reach, schema_stays}
 
@@ -44,7 +43,7 @@ module _ (schema address input : List ℕ) where
 
   pub ends : RunEnds (post_job schema address input) to_link (posts schema address input)
   ends t r s n shown (runs.done h) f =
-      ends_so (λ v a. PostAnswer v.files (next_link v) schema address input a) (PostKeeps schema input) t r s n (post_has_cause schema address input t r (runs.done h)) (post_comes (WriteFailed t) schema address input t r s n h f (λ x. x))
+      ends_so (λ v a. PostAnswer v.files (next_link v) schema address input a) (PostKeeps schema input) t r s n (post_has_cause schema address input t r (runs.done h)) (post_comes (ErrorsFailed t) schema address input t r s n h f (λ x. x))
   ends t r s n shown (runs.out_of_memory h) f = memory_ends (post_job schema address input) (posts schema address input) t r s n h f
 
   -- ---- what it leaves
@@ -67,26 +66,17 @@ module _ (schema address input : List ℕ) where
 
   -- ---- where nothing fails
 
-  sent_safe : (o : Outcome) (b : List ℕ) (a : Answer) → a ≡ answer_of address b o → IsSafe a.status
-  sent_safe (shows line) b a is = safe_as a.status _ (ap (λ (x : Answer). x.status) is) done_safe
-  sent_safe (peer line) b a is = safe_as a.status PeerFault (ap (λ (x : Answer). x.status) is) peer_safe
+  told_safe : (r : Status) → IsTold r → IsSafe r
+  told_safe r told (inl e) = told.0.0 e
+  told_safe r told (inr (inl e)) = told.0.1 e
+  told_safe r told (inr (inr e)) = told.1 e
 
-  call_safe : (p : ProfileView) (b given : List ℕ) (a : Answer) → answer.OfCall p address b given a → IsSafe a.status
-  call_safe p b given a (answer.no_call fault refuses is) = safe_as a.status Refused (ap (λ (x : Answer). x.status) is) refused_safe
-  call_safe p b given a (answer.long_call c means long is) = safe_as a.status Refused (ap (λ (x : Answer). x.status) is) refused_safe
-  call_safe p b given a (answer.sent c means few of) = sent_safe of.0 _ a of.2
-
-  json_safe : (p : ProfileView) (text given : List ℕ) (a : Answer) → answer.OfJson p address text given a → IsSafe a.status
-  json_safe p text given a (answer.no_json cause refuses is) = safe_as a.status Refused (ap (λ (x : Answer). x.status) is) refused_safe
-  json_safe p text given a (answer.json_of x b is spells are of) = call_safe p b given a of
-
-  module _ (t : List Event) (r : Status) (s n : Outside) (shown : IsShown s.view) (run : RunsIn to_link (posts schema address input) t r) (fits : Fits t s n) (reliable : IsReliable s)
-      (a : Answer) (of : PostAnswer s.view.files (next_link s.view) schema address input a) (room : HasRoomFor a s.view) (stays : r ≡ Memory → ⊥) where
+  module _ (t : List Event) (r : Status) (s n : Outside) (shown : IsShown s.view) (run : posts schema address input t r) (fits : Fits t s n) (reliable : IsReliable s)
+      (a : Answer) (of : PostAnswer s.view.files (next_link s.view) schema address input a) (room : HasRoomFor a s.view) where
     -- the schema is a profile, and so the input is there
     input_safe : (p : ProfileView) → OfInput address input s.view.files (next_link s.view) p a → IsSafe r
     input_safe p (bytes, has, json) =
-        let e = post_ends schema address input t r s n a run stays fits reliable (of.0, of.1) (bytes, has) (given_bytes s.view.links shown.bytes.links 0) of room in
-        safe_as r a.status e.ends (json_safe p bytes (next_link s.view) a json)
+        told_safe r (post_unfailing schema address input t r s n a run fits reliable (of.0, of.1) (bytes, has) (given_bytes s.view.links shown.bytes.links 0) of room)
 
     profile_safe : (text : List ℕ) (S : Declared) (u : List Event) → ReadsFile slots.Schema schema SCHEMA_BYTES u (Some text) → IsSchemaText text S → (m : Outside) → Fits u s m → (l : List Event) → OfProfile (OfInputFile address input) S l r → IsSafe r
     profile_safe text S u read is m f l (no_profile fault lacks h) = refusal_safe _ l r h
@@ -102,9 +92,8 @@ module _ (schema address input : List ℕ) where
 
   pub sound : RunIsSound (post_job schema address input) to_link (posts schema address input)
   sound t r s n shown (runs.done h) f reliable (a, of, room) fault =
-      let stays : r ≡ Memory → ⊥ = λ e. safe_as r Memory e memory_safe fault in
       let parts = fits_both h.first h.rest s n (subst (λ (l : List Event). Fits l s n) h.splits f) in
-      read_safe t r s n shown (runs.done h) f reliable a of room stays h.between h.first h.rest parts.0 h.does h.goes parts.1 fault
+      read_safe t r s n shown h f reliable a of room h.between h.first h.rest parts.0 h.does h.goes parts.1 fault
   sound t r s n shown (runs.out_of_memory h) f reliable fit fault = safe_as r Memory (told_status _ h.between h.rest r h.goes ∙ h.does.1) memory_safe fault
 
 pub post_runs : (schema address input : List ℕ) → RunsJob (post_job schema address input) to_link (posts schema address input)

@@ -135,7 +135,7 @@ module _ (p : ProfileView) (good : IsProfile p) where
 
   client_stops : (left rest : List ℕ) (d : ClientState) (m f : Frame) (fault : ClientFault) → AreBytes left → RefusedFrame p d left f fault → ComesFirst (MeansFrame p) m left rest → cause_of d m ≡ None → ⊥
   client_stops left rest d m f fault are r c clear =
-      some_none r.cause (sym clear ∙ ap (cause_of d) (same_first (client_side p) one_frame one_call left rest r.rest m f are c r.comes).0 ∙ r.refuses)
+      some_none fault (sym clear ∙ ap (cause_of d) (same_first (client_side p) one_frame one_call left rest r.rest m f are c r.comes).0 ∙ r.refuses)
 
   pub record Whole (c : ClientState) (bytes out : List ℕ) : Type 0 where
     pub left : List ℕ

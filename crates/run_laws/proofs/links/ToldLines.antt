@@ -1,7 +1,6 @@
 -- What a run tells and prints, whatever fails.
 use Rattle.std.proofs.Common.{◌≡◌, ℕ, List, [], ◌∷◌, ◌++◌, map, append-nil, Bool, true, false, refl, sym, ap, ◌∙◌, subst, inl, inr}
 use Rattle.tl_base.specs.Outside.{written_of}
-use Rattle.tl_base.specs.declared.counts.Kind.TheVariants as kinds
 use Rattle.tl_base.specs.declared.host.Out.{Out}
 use Rattle.tl_base.specs.declared.host.Out.TheVariants as outs
 use Rattle.outside.specs.Answer.{Answer, write_fault_line}
@@ -10,28 +9,30 @@ use Rattle.outside.specs.Telling.{Tells as TellsOn}
 use Rattle.outside.specs.declared.status.Status.{Status}
 use Rattle.outside.specs.declared.status.Status.TheVariants.{WriteFault}
 use Rattle.outside.specs.Events.{Event, Outside, put, write_failed}
-use Rattle.outside.specs.Laws.{Happened, IsFailure}
 use Rattle.outside.specs.Pieces.{InPieces, Tells, Writes}
 use Rattle.outside.specs.Printing.{Prints, after_output}
-use Rattle.outside.proofs.Causing.{happened_first, happened_last, unwritten}
+use Rattle.outside.proofs.Causing.{happened_first, happened_last}
 use Rattle.outside.specs.Fits.{Fits}
 use Rattle.outside.proofs.Fitting.{fits_both, writes_append}
 use Rattle.session_rooms.proofs.LeftViews.{beside}
 use Rattle.session_rooms.proofs.PostFiles.{output_of}
 use Rattle.session_rooms.proofs.Spared.{writes_spare}
+use Rattle.run_laws.specs.Ended.{ErrorsFailed, IsUntold}
+use Rattle.run_laws.proofs.Untold.{unwritten_errors}
+use Rattle.run_laws.proofs.serving.Lines.{writes_some}
 
 abbrev pub errors_of : Outside → List ℕ
 errors_of s = written_of outs.Errors s.view
 
--- a failed write in the trace is W
+-- a failed write to Errors in the trace is W
 abbrev pub Causes : Type 0 → List Event → Type 0
-Causes W t = Happened (IsFailure kinds.Writes) t → W
+Causes W t = ErrorsFailed t → W
 
 pub cause_first : (W : Type 0) (t first rest : List Event) → t ≡ first ++ rest → Causes W t → Causes W first
-cause_first W t first rest is c h = c (subst (Happened (IsFailure kinds.Writes)) (sym is) (happened_first (IsFailure kinds.Writes) first rest h))
+cause_first W t first rest is c h = c (subst ErrorsFailed (sym is) (happened_first IsUntold first rest h))
 
 pub cause_last : (W : Type 0) (t first rest : List Event) → t ≡ first ++ rest → Causes W t → Causes W rest
-cause_last W t first rest is c h = c (subst (Happened (IsFailure kinds.Writes)) (sym is) (happened_last (IsFailure kinds.Writes) first rest h))
+cause_last W t first rest is c h = c (subst ErrorsFailed (sym is) (happened_last IsUntold first rest h))
 
 -- ---- what was put where a write failed
 
@@ -40,9 +41,6 @@ put_part out part t a b q f =
     let parts = fits_both (map (put out) q.pieces) (write_failed out ∷ []) a b (subst (λ (l : List Event). Fits l a b) q.events f) in
     ap (λ (o : Outside). written_of out o.view) parts.2.2 ∙ (ap (written_of out) parts.2.1.0
     ∙ writes_append out part (map (put out) q.pieces) a parts.0 (record { pieces = q.pieces; events = sym (append-nil (map (put out) q.pieces)); join = q.join }) parts.1)
-
-pub wrote_some : (out : Out) (bytes : List ℕ) (t : List Event) (a b : Outside) → Writes out bytes t false → Fits t a b → AddsPrefix (written_of out a.view) (written_of out b.view) bytes
-wrote_some out bytes t a b (before, after, q, join, some) f = (before, after, join, put_part out before t a b q f)
 
 -- ---- a line
 
@@ -58,7 +56,7 @@ tells_later W line s m n same (inr (w, p)) = inr (w, (p.0, p.1, p.2, p.3 ∙ ap 
 
 errors_told : (W : Type 0) (line : List ℕ) (ok : Bool) (t : List Event) (s n : Outside) → Writes outs.Errors line t ok → Fits t s n → Causes W t → TellsOn W line s.view n.view
 errors_told W line true t s n w f c = inl (writes_append outs.Errors line t s n w f)
-errors_told W line false t s n w f c = inr (c (unwritten outs.Errors line t w), wrote_some outs.Errors line t s n w f)
+errors_told W line false t s n w f c = inr (c (unwritten_errors line t w), writes_some outs.Errors line t s n w f)
 
 pub tell_alone : (W : Type 0) (line : List ℕ) (status r : Status) (t : List Event) (s n : Outside) → Tells line status t r → Fits t s n → Causes W t → Alone W line s n
 tell_alone W line status r t s n h f c =
@@ -91,7 +89,7 @@ output_printed W a true t u r s m n w h f g c =
     (e.rest ∙ writes_spare outs.Output beside (λ bytes v. refl) a.output t true s m w f)
 output_printed W a false t u r s m n w h f g c =
     let e = tell_alone W write_fault_line WriteFault r u m n h g c in
-    let p = wrote_some outs.Output a.output t s m w f in
+    let p = writes_some outs.Output a.output t s m w f in
     part_printed h.goes.1 (p.0, p.1, p.2, e.output ∙ p.3)
     (tells_later W write_fault_line s m n (writes_spare outs.Output (written_of outs.Errors) (λ bytes v. refl) a.output t false s m w f) e.line_is)
     (e.rest ∙ writes_spare outs.Output beside (λ bytes v. refl) a.output t false s m w f)

@@ -30,11 +30,11 @@ use Rattle.serve_rooms.specs.declared.status.KeptStatus.{KeptStatus}
 use Rattle.serve_rooms.specs.declared.status.KeptStatus.TheVariants.{Run, KeepFault}
 use Rattle.serve_rooms.specs.declared.telling.Tally.{Tally}
 use Rattle.serve_rooms.proofs.AnsweredBytes.{added_more, fits_hosted, fits_none, fits_parts, nothing_added}
-use Rattle.run_laws.specs.Ended.{LinkFailed, WriteFailed}
+use Rattle.run_laws.specs.Ended.{ErrorsFailed, LinkFailed, WriteFailed}
 use Rattle.run_laws.proofs.serving.Beginnings.{LoopBegun, Seam, reached, turning, within, past, hosted_events, nothing_after, nothing_follows, reaches_begun, seam, some_more}
 use Rattle.run_laws.proofs.serving.Connected.{Connected, Lost, NextCame, unheard, nobody, heard, broken_off, added_after, line_as, next_came}
 use Rattle.run_laws.proofs.serving.Lines.{LineEnd, LineSo, added_after as prefix_after, all_added, errors_of, line_end, longer, output_of, so_prefix}
-use Rattle.run_laws.proofs.serving.LinkCauses.{link_first, link_last, write_last}
+use Rattle.run_laws.proofs.serving.LinkCauses.{errors_last, link_first, link_last, write_last}
 use Rattle.run_laws.proofs.serving.Quiet.{IsQuiet, Silent, begun_quiet}
 use Rattle.run_laws.proofs.serving.SoFar.{SoFar, Untold, WholeOr, none_yet, one_over, one_told, so_far, whole_later}
 use Rattle.run_laws.proofs.serving.ToldLines.{Says, SomeOf, some_none, Unwritten, told_all, told_some, unwritten_by, lines_prefix, next_told}
@@ -44,7 +44,7 @@ next_ends : (x : ServerState) (q : Told) (w : List Act) (r : Next) → after_tel
 next_ends x (goes_on tally) w r h = h.0
 next_ends x (is_over status) w r h = h.0
 
-end_adds : (number : ℕ) (tally : Tally) (x : ServerState) (end : Result ℕ SessionFault) (m u : List Act) (r : Next) → after_session number tally (over x end) (m ++ u) r → added_in m ≡ []
+pub end_adds : (number : ℕ) (tally : Tally) (x : ServerState) (end : Result ℕ SessionFault) (m u : List Act) (r : Next) → after_session number tally (over x end) (m ++ u) r → added_in m ≡ []
 end_adds number tally x end m u r h =
     let all : added_in (m ++ u) ≡ [] = ap added_in h.splits ∙ added_more h.first h.rest ∙ ap (λ (l : List Entry). l ++ added_in h.rest) (nothing_added h.first h.does.0 h.does.1) ∙ ap added_in (next_ends x h.between h.rest r h.goes) in
     nothing_follows (added_in m) (added_in u) (sym (added_more m u) ∙ all)
@@ -100,9 +100,9 @@ module _ (p : ProfileView) (s : ServerState) (n : ℕ) (R : Type 0) (v : View) w
   -- All were served; nobody could be taken; the line of one wasn't written; the keeper failed; or they are begun.
   pub data LoopCame (t u : List Act) (r : KeptStatus) (b : Outside) : Type 0 where
     served_all : (server : ServerState) (tally : Tally) → u ≡ [] → r ≡ Run tally.status → SoFar p s n R v n server tally t b → LoopCame t u r b
-    unlinked : (m : Outside) → Stopped t m → LinkFailed (events_in t) → (R → length v.links < n) → LineEnd (WriteFailed (events_in t)) link_fault_line (Run statuses.LinkFault) u r m b → LoopCame t u r b
-    unwritten : (m : Outside) (h : Stopped t m) → WriteFailed (events_in t) → (R → v.room < length v.written.output + length h.total.output) → LineEnd (WriteFailed (events_in t)) write_fault_line (Run statuses.WriteFault) u r m b → LoopCame t u r b
-    unkept : (m : Outside) → KeeperLost t m → LineEnd (WriteFailed (events_in t)) keep_fault_line KeepFault u r m b → LoopCame t u r b
+    unlinked : (m : Outside) → Stopped t m → LinkFailed (events_in t) → (R → length v.links < n) → LineEnd (ErrorsFailed (events_in t)) link_fault_line (Run statuses.LinkFault) u r m b → LoopCame t u r b
+    unwritten : (m : Outside) (h : Stopped t m) → WriteFailed (events_in t) → (R → v.room < length v.written.output + length h.total.output) → LineEnd (ErrorsFailed (events_in t)) write_fault_line (Run statuses.WriteFault) u r m b → LoopCame t u r b
+    unkept : (m : Outside) → KeeperLost t m → LineEnd (ErrorsFailed (events_in t)) keep_fault_line KeepFault u r m b → LoopCame t u r b
     begun : 0 < length u → Given b → LoopCame t u r b
 
   pub so_given : (k : ℕ) (server : ServerState) (tally : Tally) (t : List Act) (b : Outside) → k ≤ n → SoFar p s n R v k server tally t b → Given b
@@ -145,8 +145,8 @@ module _ (p : ProfileView) (s : ServerState) (n : ℕ) (R : Type 0) (v : View) w
   }
 
   module _ (k : ℕ) (less : k < n) (server : ServerState) (tally : Tally) (t first step w : List Act) (q : Next) (u : List Act) (r : KeptStatus) (m b : Outside) (splits : t ≡ first ++ step) (so : SoFar p s n R v k server tally first m) (f : Fits (events_in step) m b) (how : Follows k w q u r) where
-    write_lift : WriteFailed (events_in step) → WriteFailed (events_in t)
-    write_lift h = subst (λ (l : List Act). WriteFailed (events_in l)) (sym splits) (write_last first step h)
+    errors_lift : ErrorsFailed (events_in step) → ErrorsFailed (events_in t)
+    errors_lift h = subst (λ (l : List Act). ErrorsFailed (events_in l)) (sym splits) (errors_last first step h)
 
     goes_begun : 0 < length w → Given b → LoopCame t u r b
     goes_begun some given = elim how as (λ z. LoopCame t u r b) [
@@ -155,7 +155,7 @@ module _ (p : ProfileView) (s : ServerState) (n : ℕ) (R : Type 0) (v : View) w
     ]
 
     -- nobody was taken
-    nobody_stops : (j : Outside) → j.view ≡ m.view → added_in step ≡ [] → LinkFailed (events_in step) → (IsReliable m → length m.view.links ≡ 0) → LineEnd (WriteFailed (events_in step)) link_fault_line (no_more (Run statuses.LinkFault)) w q j b → LoopCame t u r b
+    nobody_stops : (j : Outside) → j.view ≡ m.view → added_in step ≡ [] → LinkFailed (events_in step) → (IsReliable m → length m.view.links ≡ 0) → LineEnd (ErrorsFailed (events_in step)) link_fault_line (no_more (Run statuses.LinkFault)) w q j b → LoopCame t u r b
     nobody_stops j view none failed empty line =
         unlinked j
         (record {
@@ -171,7 +171,7 @@ module _ (p : ProfileView) (s : ServerState) (n : ℕ) (R : Type 0) (v : View) w
         })
         (subst (λ (l : List Act). LinkFailed (events_in l)) (sym splits) (link_last first step failed))
         (λ sound. omega (arith, less, empty (so.sound sound), ap length so.leaves.coming, length-drop k v.links))
-        (line_as (WriteFailed (events_in step)) (WriteFailed (events_in t)) write_lift link_fault_line (Run statuses.LinkFault) u r j b (line_follows k (WriteFailed (events_in step)) link_fault_line (Run statuses.LinkFault) w q u r j b how line))
+        (line_as (ErrorsFailed (events_in step)) (ErrorsFailed (events_in t)) errors_lift link_fault_line (Run statuses.LinkFault) u r j b (line_follows k (ErrorsFailed (events_in step)) link_fault_line (Run statuses.LinkFault) w q u r j b how line))
 
     -- the session is over, and something of it is told
     module _ (acts rest : List Act) (x : ServerState) (end : Result ℕ SessionFault) (j : Outside) (parts : step ≡ acts ++ rest) (c : Connected p server acts x end m j) (fits : Fits (events_in acts) m j) (tells : Fits (events_in rest) j b) (goes : after_session k tally (over x end) (rest ++ w) q) where
@@ -184,10 +184,10 @@ module _ (p : ProfileView) (s : ServerState) (n : ℕ) (R : Type 0) (v : View) w
       adds_nothing : added_in rest ≡ []
       adds_nothing = end_adds k tally x end rest w q goes
 
-      write_lift_rest : WriteFailed (events_in rest) → WriteFailed (events_in t)
-      write_lift_rest h = subst (λ (l : List Act). WriteFailed (events_in l)) (sym splits_so) (write_last (first ++ acts) rest h)
+      errors_lift_rest : ErrorsFailed (events_in rest) → ErrorsFailed (events_in t)
+      errors_lift_rest h = subst (λ (l : List Act). ErrorsFailed (events_in l)) (sym splits_so) (errors_last (first ++ acts) rest h)
 
-      next_all : (later : Tally) → w ≡ [] → q ≡ more x later → Says k c.ends tally later (WriteFailed (events_in rest)) j b → LoopCame t u r b
+      next_all : (later : Tally) → w ≡ [] → q ≡ more x later → Says k c.ends tally later (ErrorsFailed (events_in rest)) j b → LoopCame t u r b
       next_all later last is says = elim how as (λ z. LoopCame t u r b) [
         | inl follows ↦ begun follows (so_given (suc k) x later t b (omega (arith, less)) (one_told p s n R v k x tally later c.ends t (first ++ acts) rest j b splits_so adds_nothing one says tells))
         | inr (none, empty, ends) ↦ absurd (let no : ◌≡◌ {A = Turn Serving KeptStatus} (leave r) (again (record { number = k + 1; server = x; tally = later })) = ends ∙ ap (turn_of k) is in cc)
@@ -203,7 +203,7 @@ module _ (p : ProfileView) (s : ServerState) (n : ℕ) (R : Type 0) (v : View) w
         errors = subst (AddsPrefix v.written.errors (errors_of b)) (sym one.errors_is) (errors_on tally.whole v.written.errors (errors_of j) (errors_of b) one.before.errors (end_errors c.ends) one.lines errors);
       })
 
-      next_unwritten : (i : ℕ) → c.ends ≡ served i → Unwritten k i ((w ≡ []) × (q ≡ no_more (Run statuses.WriteFault))) (0 < length w) (WriteFailed (events_in rest)) j b → LoopCame t u r b
+      next_unwritten : (i : ℕ) → c.ends ≡ served i → Unwritten k i ((w ≡ []) × (q ≡ no_more (Run statuses.WriteFault))) (0 < length w) (WriteFailed (events_in rest)) (ErrorsFailed (events_in rest)) j b → LoopCame t u r b
       next_unwritten i is h =
           let line = served_line k i in
           let y = h.stopped in
@@ -222,10 +222,10 @@ module _ (p : ProfileView) (s : ServerState) (n : ℕ) (R : Type 0) (v : View) w
             errors = subst (AddsPrefix v.written.errors (errors_of y)) (sym one.errors_is) (errors_on tally.whole v.written.errors (errors_of j) (errors_of y) one.before.errors (end_errors c.ends) one.lines (some_none tally.whole (errors_of j) (errors_of y) (end_errors c.ends) h.on.errors));
             leaves = leaves_then (so_far (suc k) one.total) v j.view y.view one.leaves h.on.rest;
           })
-          (write_lift_rest h.failed)
+          (subst (λ (l : List Act). WriteFailed (events_in l)) (sym splits_so) (write_last (first ++ acts) rest h.failed))
           (λ sound. omega (arith, h.full (one.sound sound), one.room, ap length one.output, length-append v.written.output one.before.output, ap length one.output_is, length-append one.before.output (end_output k c.ends), ap length ends))
-          (line_as (WriteFailed (events_in rest)) (WriteFailed (events_in t)) write_lift_rest write_fault_line (Run statuses.WriteFault) u r y b
-          (line_follows k (WriteFailed (events_in rest)) write_fault_line (Run statuses.WriteFault) w q u r y b how (record { on = h.after; line_is = h.line_is })))
+          (line_as (ErrorsFailed (events_in rest)) (ErrorsFailed (events_in t)) errors_lift_rest write_fault_line (Run statuses.WriteFault) u r y b
+          (line_follows k (ErrorsFailed (events_in rest)) write_fault_line (Run statuses.WriteFault) w q u r y b how (record { on = h.after; line_is = h.line_is })))
 
       heard_came : LoopCame t u r b
       heard_came = elim (next_told k tally x end c.ends c.is rest w q j b tells goes) as (λ z. LoopCame t u r b) [
@@ -241,7 +241,7 @@ module _ (p : ProfileView) (s : ServerState) (n : ℕ) (R : Type 0) (v : View) w
     turn_came (broken_off acts rest j parts lost none line) =
         let all : t ≡ (first ++ acts) ++ rest = splits ∙ ap (λ (l : List Act). first ++ l) parts ∙ sym (append_assoc first acts rest) in
         unkept j (record { number = k; less = less; server = server; tally = tally; first = first; acts = acts; later = rest; started = m; all = all; so = so; lost = lost; none = none })
-        (line_as (WriteFailed (events_in step)) (WriteFailed (events_in t)) write_lift keep_fault_line KeepFault u r j b (line_follows k (WriteFailed (events_in step)) keep_fault_line KeepFault w q u r j b how line))
+        (line_as (ErrorsFailed (events_in step)) (ErrorsFailed (events_in t)) errors_lift keep_fault_line KeepFault u r j b (line_follows k (ErrorsFailed (events_in step)) keep_fault_line KeepFault w q u r j b how line))
 
   -- ---- turns
 
@@ -271,7 +271,7 @@ module _ (p : ProfileView) (s : ServerState) (n : ℕ) (R : Type 0) (v : View) w
       all_splits = ap (λ (l : List Act). before ++ l) splits ∙ sym (append_assoc before first rest)
 
       told_on : (acts later_acts : List Act) (d : ServerState) (end : Result ℕ SessionFault) (later : Tally) (j : Outside) → rest ≡ acts ++ later_acts → (c : Connected p x.server acts d end m j) → Fits (events_in acts) m j → Fits (events_in later_acts) j b
-          → added_in later_acts ≡ [] → Says x.number c.ends x.tally later (WriteFailed (events_in later_acts)) j b → Reached (with_one x d later) t b
+          → added_in later_acts ≡ [] → Says x.number c.ends x.tally later (ErrorsFailed (events_in later_acts)) j b → Reached (with_one x d later) t b
       told_on acts later_acts d end later j parts c f g none says =
           let one = one_over p s n R v x.number less x.server d x.tally end ((before ++ first) ++ acts) (before ++ first) acts m j refl so.so c f in
           let all : before ++ t ≡ ((before ++ first) ++ acts) ++ later_acts = all_splits ∙ ap (λ (l : List Act). (before ++ first) ++ l) parts ∙ sym (append_assoc (before ++ first) acts later_acts) in
@@ -387,7 +387,7 @@ listening address v = record v { address = Some address }
 -- Nothing was heard yet; nothing listens; or something does, and sessions come.
 pub data AllCame (p : ProfileView) (address : List ℕ) (n : ℕ) (s : ServerState) (t u : List Act) (r : KeptStatus) (a b : Outside) : Type 0 where
   not_yet : 0 < length u → Silent a b → AllCame p address n s t u r a b
-  unlistened : (m : Outside) → m.view ≡ a.view → added_in t ≡ [] → LinkFailed (events_in t) → (IsReliable a → a.view.room < length address) → LineEnd (WriteFailed (events_in t)) link_fault_line (Run statuses.LinkFault) u r m b → AllCame p address n s t u r a b
+  unlistened : (m : Outside) → m.view ≡ a.view → added_in t ≡ [] → LinkFailed (events_in t) → (IsReliable a → a.view.room < length address) → LineEnd (ErrorsFailed (events_in t)) link_fault_line (Run statuses.LinkFault) u r m b → AllCame p address n s t u r a b
   served_so : LoopCame p s n (IsReliable a) (listening address a.view) t u r b → AllCame p address n s t u r a b
 
 module _ (p : ProfileView) (address : List ℕ) (n : ℕ) (s : ServerState) (t u : List Act) (r : KeptStatus) (a b : Outside) where
@@ -405,7 +405,7 @@ module _ (p : ProfileView) (address : List ℕ) (n : ℕ) (s : ServerState) (t u
       let none : added_in t ≡ [] = added_after t first rest events is hosts ∙ nothing_follows (added_in rest) (added_in u) (sym (added_more rest u) ∙ all) in
       let full : IsReliable a → a.view.room < length address = λ reliable. elim o.1.1.0 as (λ z. a.view.room < length address) [ inl fails ↦ absurd (omega (arith, fails.1, reliable)) | inr no_room ↦ elim (cases_lt a.view.room (length address)) as (λ z. a.view.room < length address) [ inl long ↦ long | inr fits ↦ absurd (no_room fits) ] ] in
       unlistened m view none (subst (λ (l : List Act). LinkFailed (events_in l)) (sym is) (link_first first rest failed)) full
-      (line_as (WriteFailed (events_in rest)) (WriteFailed (events_in t)) (λ w. subst (λ (l : List Act). WriteFailed (events_in l)) (sym is) (write_last first rest w)) link_fault_line (Run statuses.LinkFault) u r m b
+      (line_as (ErrorsFailed (events_in rest)) (ErrorsFailed (events_in t)) (λ w. subst (λ (l : List Act). ErrorsFailed (events_in l)) (sym is) (errors_last first rest w)) link_fault_line (Run statuses.LinkFault) u r m b
       (line_end link_fault_line statuses.LinkFault (λ status. Run status) rest u r m b g goes))
 
   came_at : (h : ServesAll address n s p (t ++ u) r) → Seam t u h.first h.rest → Fits (events_in t) a b → AllCame p address n s t u r a b

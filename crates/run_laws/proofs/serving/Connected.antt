@@ -30,7 +30,7 @@ use Rattle.session_rooms.proofs.LeftViews.{IsOverLink, last_link, link_spares, u
 use Rattle.serve_rooms.specs.Acts.{Act, hosted, events_in, IsKeeperFault}
 use Rattle.serve_rooms.specs.Answering.{AnswersAll, Session, over, lost}
 use Rattle.serve_rooms.specs.Doing.{Hosted}
-use Rattle.serve_rooms.specs.ServedBytes.{added_in, session_answer}
+use Rattle.serve_rooms.specs.ServedBytes.{added_in}
 use Rattle.serve_rooms.specs.Sessions.{Next, no_more, keep_fault_line, TellsKeepFault, after_session, after_moment, after_accept, ServesNext}
 use Rattle.serve_rooms.specs.declared.status.KeptStatus.TheVariants.{Run, KeepFault}
 use Rattle.serve_rooms.specs.declared.telling.Tally.{Tally}
@@ -39,11 +39,12 @@ use Rattle.serve_rooms.proofs.Answered.{lost_at_fault}
 use Rattle.serve_rooms.proofs.AnsweredBytes.{added_more, fits_hosted, fits_parts, nothing_added, sessions_answer}
 use Rattle.serve_rooms.proofs.SessionEvents.{session_keeps}
 use Rattle.outside.proofs.Causing.{happened_first, happened_last}
-use Rattle.run_laws.specs.Ended.{LinkFailed, WriteFailed}
+use Rattle.run_laws.specs.Ended.{ErrorsFailed, LinkFailed}
+use Rattle.run_laws.specs.Sessions.{session_answer}
 use Rattle.run_laws.proofs.serving.Beginnings.{Seam, within, past, hosted_events, nothing_follows, seam, some_more}
 use Rattle.run_laws.proofs.serving.KnownEnds.{failed_end, session_known}
 use Rattle.run_laws.proofs.serving.Lines.{LineEnd, LineSo, line_end}
-use Rattle.run_laws.proofs.serving.LinkCauses.{link_first, link_last, session_cause, write_last}
+use Rattle.run_laws.proofs.serving.LinkCauses.{errors_last, link_first, link_last, session_cause}
 use Rattle.run_laws.proofs.serving.LinkRooms.{link_short, none_sent}
 use Rattle.run_laws.proofs.serving.Quiet.{IsQuiet, Silent, begun_quiet, silent, silent_then}
 
@@ -87,9 +88,9 @@ pub record Lost (p : ProfileView) (s : ServerState) (acts : List Act) (a j : Out
 -- What the acts of a connection came to: nothing is told yet, and more is to come; nobody was taken; a session is over; or the keeper failed.
 pub data NextCame (p : ProfileView) (number : ℕ) (s : ServerState) (tally : Tally) (t u : List Act) (r : Next) (a b : Outside) : Type 0 where
   unheard : 0 < length u → Silent a b → NextCame p number s tally t u r a b
-  nobody : (k : Outside) → k.view ≡ a.view → added_in t ≡ [] → LinkFailed (events_in t) → (IsReliable a → length a.view.links ≡ 0) → LineEnd (WriteFailed (events_in t)) link_fault_line (no_more (Run statuses.LinkFault)) u r k b → NextCame p number s tally t u r a b
+  nobody : (k : Outside) → k.view ≡ a.view → added_in t ≡ [] → LinkFailed (events_in t) → (IsReliable a → length a.view.links ≡ 0) → LineEnd (ErrorsFailed (events_in t)) link_fault_line (no_more (Run statuses.LinkFault)) u r k b → NextCame p number s tally t u r a b
   heard : (first m : List Act) (x : ServerState) (end : Result ℕ SessionFault) (j : Outside) → t ≡ first ++ m → Connected p s first x end a j → Fits (events_in first) a j → Fits (events_in m) j b → after_session number tally (over x end) (m ++ u) r → NextCame p number s tally t u r a b
-  broken_off : (first m : List Act) (j : Outside) → t ≡ first ++ m → Lost p s first a j → added_in m ≡ [] → LineEnd (WriteFailed (events_in t)) keep_fault_line (no_more KeepFault) u r j b → NextCame p number s tally t u r a b
+  broken_off : (first m : List Act) (j : Outside) → t ≡ first ++ m → Lost p s first a j → added_in m ≡ [] → LineEnd (ErrorsFailed (events_in t)) keep_fault_line (no_more KeepFault) u r j b → NextCame p number s tally t u r a b
 
 pub line_as : {A : Type 0} (W V : Type 0) → (W → V) → (line : List ℕ) (x : A) (u : List Act) (r : A) (a b : Outside) → LineEnd W line x u r a b → LineEnd V line x u r a b
 line_as W V into line x u r a b h = record {
@@ -129,7 +130,7 @@ module _ (p : ProfileView) (number : ℕ) (s : ServerState) (tally : Tally) (t u
       let first_failed : LinkFailed (events_in first) = subst LinkFailed (sym (hosted_events first events hosts)) failed in
       let empty : IsReliable a → length a.view.links ≡ 0 = λ reliable. elim o.1.1.0 as (λ z. length a.view.links ≡ 0) [ inl fails ↦ absurd (omega (arith, fails.1, reliable)) | inr no_links ↦ elim (cases_lt 0 (length a.view.links)) as (λ z. length a.view.links ≡ 0) [ inl some ↦ absurd (no_links some) | inr few ↦ omega (arith, few) ] ] in
       nobody k view (added_after t first m events is hosts ∙ none) (subst (λ (l : List Act). LinkFailed (events_in l)) (sym is) (link_first first m first_failed)) empty
-      (line_as (WriteFailed (events_in m)) (WriteFailed (events_in t)) (λ w. subst (λ (l : List Act). WriteFailed (events_in l)) (sym is) (write_last first m w)) link_fault_line (no_more (Run statuses.LinkFault)) u r k b
+      (line_as (ErrorsFailed (events_in m)) (ErrorsFailed (events_in t)) (λ w. subst (λ (l : List Act). ErrorsFailed (events_in l)) (sym is) (errors_last first m w)) link_fault_line (no_more (Run statuses.LinkFault)) u r k b
       (line_end link_fault_line statuses.LinkFault (λ status. no_more (Run status)) m u r k b g goes))
 
   -- somebody was, and the clock was read
@@ -211,7 +212,7 @@ module _ (p : ProfileView) (number : ℕ) (s : ServerState) (tally : Tally) (t u
           silent = quiet answered j f lost h;
         })
         none_added
-        (line_as (WriteFailed (events_in later)) (WriteFailed (events_in t)) (λ w. subst (λ (l : List Act). WriteFailed (events_in l)) (sym all) (write_last (first ++ answered) later w)) keep_fault_line (no_more KeepFault) u r j b lines)
+        (line_as (ErrorsFailed (events_in later)) (ErrorsFailed (events_in t)) (λ w. subst (λ (l : List Act). ErrorsFailed (events_in l)) (sym all) (errors_last (first ++ answered) later w)) keep_fault_line (no_more KeepFault) u r j b lines)
       where
         keep_adds : Then TellsKeepFault (λ status. Ends (no_more status)) (later ++ u) r → added_in later ≡ []
         keep_adds h =

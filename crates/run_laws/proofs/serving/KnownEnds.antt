@@ -99,7 +99,7 @@ pub failed_end : (r : Result ℕ SessionFault) → end_of r ≡ Some link_fault 
 failed_end (Ok n) is = absurd cc
 failed_end (Err (session.Packet f)) is = absurd (packet_end (packet_line f) is)
 failed_end (Err (session.Wire f)) is = absurd (packet_end (Some (wire_line (codes "peer") f)) is)
-failed_end (Err (session.Client f)) is = absurd (packet_end (answer_line f) is)
+failed_end (Err (session.Client f)) is = absurd (packet_end (Some (answer_line f)) is)
 failed_end (Err session.TooManyFrames) is = absurd cc
 failed_end (Err session.LinkFault) is = refl
 failed_end (Err session.Memory) is = absurd cc

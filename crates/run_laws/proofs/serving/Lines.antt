@@ -10,13 +10,14 @@ use Rattle.outside.specs.Events.{Event, Outside, opened, took, ended, read_faile
 use Rattle.outside.specs.Laws.{Throughout}
 use Rattle.outside.specs.Pieces.{joined, Tells, Writes}
 use Rattle.outside.specs.Steps.{StepOf, Ends, Then}
-use Rattle.outside.proofs.Causing.{keeps_write, throughout_first, unwritten}
+use Rattle.outside.proofs.Causing.{keeps_write, throughout_first}
 use Rattle.outside.specs.Fits.{Happens, Fits}
 use Rattle.outside.proofs.Fitting.{writes_append}
 use Rattle.session_rooms.proofs.LeftViews.{all_leave, beside}
 use Rattle.serve_rooms.specs.Acts.{Act, events_in}
 use Rattle.serve_rooms.specs.Doing.{Hosted}
-use Rattle.run_laws.specs.Ended.{WriteFailed}
+use Rattle.run_laws.specs.Ended.{ErrorsFailed}
+use Rattle.run_laws.proofs.Untold.{unwritten_errors}
 use Rattle.run_laws.proofs.serving.Beginnings.{Seam, within, past, heads, hosted_both, hosted_events, nothing_after, nothing_follows, seam, some_more, tails}
 
 abbrev pub output_of : Outside → List ℕ
@@ -112,6 +113,9 @@ module _ (out : Out) where
       longer (written_of out a.view) (written_of out b.view) line before after
       (subst (λ (l : List ℕ). AddsPrefix (written_of out a.view) (written_of out b.view) l) q.join (pieces_begun q.pieces (write_failed out ∷ []) failed_put t u a b q.events f)) is
 
+  pub writes_some : (line : List ℕ) (t : List Event) (a b : Outside) → Writes out line t false → Fits t a b → AddsPrefix (written_of out a.view) (written_of out b.view) line
+  writes_some line t a b h f = writes_begun line t [] false a b (subst (λ (l : List Event). Writes out line l false) (sym (append-nil t)) h) f
+
 -- ---- Output and Errors
 
 -- a beginning of a line on Output leaves all else
@@ -149,12 +153,13 @@ pub so_prefix : (done more W : Type 0) (line : List ℕ) (a b : Outside) → Lin
 so_prefix done more W line a b (inl (is, h)) = told_prefix W line a.view b.view h
 so_prefix done more W line a b (inr (some, h)) = h
 
-line_written : (line : List ℕ) (t : List Event) (ok : Bool) (a b : Outside) → Writes outs.Errors line (t ++ []) ok → Fits t a b → telling.Tells (WriteFailed t) line a.view b.view
-line_written line t true a b h f = inl (writes_append outs.Errors line t a b (subst (λ (l : List Event). Writes outs.Errors line l true) (append-nil t) h) f)
-line_written line t false a b h f = inr (unwritten outs.Errors line t (subst (λ (l : List Event). Writes outs.Errors line l false) (append-nil t) h), writes_begun outs.Errors line t [] false a b h f)
+-- whole, or a prefix of it where a write to Errors failed
+pub errors_told : (line : List ℕ) (t : List Event) (ok : Bool) (a b : Outside) → Writes outs.Errors line t ok → Fits t a b → telling.Tells (ErrorsFailed t) line a.view b.view
+errors_told line t true a b h f = inl (writes_append outs.Errors line t a b h f)
+errors_told line t false a b h f = inr (unwritten_errors line t h, writes_some outs.Errors line t a b h f)
 
-pub line_so : (line : List ℕ) (t u : List Event) (ok : Bool) (a b : Outside) → Writes outs.Errors line (t ++ u) ok → Fits t a b → LineSo (u ≡ []) (0 < length u) (WriteFailed t) line a b
-line_so line t [] ok a b h f = inl (refl, line_written line t ok a b h f)
+pub line_so : (line : List ℕ) (t u : List Event) (ok : Bool) (a b : Outside) → Writes outs.Errors line (t ++ u) ok → Fits t a b → LineSo (u ≡ []) (0 < length u) (ErrorsFailed t) line a b
+line_so line t [] ok a b h f = inl (refl, errors_told line t ok a b (subst (λ (l : List Event). Writes outs.Errors line l ok) (append-nil t) h) f)
 line_so line t (e ∷ u) ok a b h f = inr (omega arith, writes_begun outs.Errors line t (e ∷ u) ok a b h f)
 
 -- a line by which something ends
@@ -166,7 +171,7 @@ pub record Lined {A : Type 0} (W : Type 0) (line : List ℕ) (status : A) (u : L
   pub line_is : LineSo (u ≡ []) (0 < length u) W line a b
   pub status_is : r ≡ status
 
-pub lined : {A : Type 0} (line : List ℕ) (status : A) (t u : List Event) (r : A) (a b : Outside) → Tells line status (t ++ u) r → Fits t a b → Lined (WriteFailed t) line status u r a b
+pub lined : {A : Type 0} (line : List ℕ) (status : A) (t u : List Event) (r : A) (a b : Outside) → Tells line status (t ++ u) r → Fits t a b → Lined (ErrorsFailed t) line status u r a b
 lined line status t u r a b h f = record {
   on = on_errors line t u h.between a b (tells_writes line status (t ++ u) r h) f;
   line_is = line_so line t u h.between a b (tells_writes line status (t ++ u) r h) f;
@@ -183,7 +188,7 @@ module _ {S A : Type 0} (line : List ℕ) (status : S) (into : S → A) (t u : L
   Line = Then (Hosted (Tells line status)) (λ s. Ends (into s))
 
   abbrev pub Done : Type 0
-  Done = LineEnd (WriteFailed (events_in t)) line (into status) u r a b
+  Done = LineEnd (ErrorsFailed (events_in t)) line (into status) u r a b
 
   line_whole : (s : S) (done : u ≡ []) → r ≡ into s → Hosted (Tells line status) t s → Done
   line_whole s done is (events, at, h) =
@@ -192,7 +197,7 @@ module _ {S A : Type 0} (line : List ℕ) (status : S) (into : S → A) (t u : L
       let l = lined line status (events_in t) [] s a b tells f in
       record {
         on = l.on;
-        line_is = elim l.line_is as (λ z. LineSo ((u ≡ []) × (r ≡ into status)) (0 < length u) (WriteFailed (events_in t)) line a b) [
+        line_is = elim l.line_is as (λ z. LineSo ((u ≡ []) × (r ≡ into status)) (0 < length u) (ErrorsFailed (events_in t)) line a b) [
           | inl (none, tells) ↦ inl ((done, is ∙ ap into l.status_is), tells)
           | inr (some, prefix) ↦ absurd (omega (arith, some))
         ];
@@ -201,7 +206,7 @@ module _ {S A : Type 0} (line : List ℕ) (status : S) (into : S → A) (t u : L
   line_begun : (s : S) (more : List Act) → 0 < length u → Hosted (Tells line status) (t ++ more) s → Done
   line_begun s more some h =
       let l = lined line status (events_in t) (events_in more) s a b (hosted_both (Tells line status) t more s h) f in
-      record { on = l.on; line_is = inr (some, so_prefix (events_in more ≡ []) (0 < length (events_in more)) (WriteFailed (events_in t)) line a b l.line_is) }
+      record { on = l.on; line_is = inr (some, so_prefix (events_in more ≡ []) (0 < length (events_in more)) (ErrorsFailed (events_in t)) line a b l.line_is) }
 
   line_at : (h : Line (t ++ u) r) → Seam t u h.first h.rest → Done
   line_at h (within more is at some) = line_begun h.between more (some_more u more h.rest at some) (subst (λ (l : List Act). Hosted (Tells line status) l h.between) is h.does)

@@ -23,7 +23,7 @@ use Rattle.serve_rooms.specs.Acts.{Act, events_in}
 use Rattle.serve_rooms.specs.Answering.{Answered, goes_on, has_ended, fails, unkept, after_sending, after_adding, AnswersBytes, no_call, answers, after_packet, AnswersNext, Session, over, lost, Served, turn_of, answers_by, AnswersAll}
 use Rattle.serve_rooms.specs.Doing.{Hosted}
 use Rattle.serve_rooms.proofs.Acting.{events_more}
-use Rattle.run_laws.specs.Ended.{LinkFailed, WriteFailed}
+use Rattle.run_laws.specs.Ended.{ErrorsFailed, IsUntold, LinkFailed, WriteFailed}
 use Rattle.run_laws.proofs.serving.Beginnings.{hosted_events}
 
 -- ---- what happened in a part
@@ -34,11 +34,14 @@ link_first t u h = subst LinkFailed (sym (events_more t u)) (happened_first (IsF
 pub link_last : (t u : List Act) → LinkFailed (events_in u) → LinkFailed (events_in (t ++ u))
 link_last t u h = subst LinkFailed (sym (events_more t u)) (happened_last (IsFailure kinds.Links) (events_in t) (events_in u) h)
 
-pub write_first : (t u : List Act) → WriteFailed (events_in t) → WriteFailed (events_in (t ++ u))
-write_first t u h = subst WriteFailed (sym (events_more t u)) (happened_first (IsFailure kinds.Writes) (events_in t) (events_in u) h)
-
 pub write_last : (t u : List Act) → WriteFailed (events_in u) → WriteFailed (events_in (t ++ u))
 write_last t u h = subst WriteFailed (sym (events_more t u)) (happened_last (IsFailure kinds.Writes) (events_in t) (events_in u) h)
+
+pub errors_first : (t u : List Act) → ErrorsFailed (events_in t) → ErrorsFailed (events_in (t ++ u))
+errors_first t u h = subst ErrorsFailed (sym (events_more t u)) (happened_first IsUntold (events_in t) (events_in u) h)
+
+pub errors_last : (t u : List Act) → ErrorsFailed (events_in u) → ErrorsFailed (events_in (t ++ u))
+errors_last t u h = subst ErrorsFailed (sym (events_more t u)) (happened_last IsUntold (events_in t) (events_in u) h)
 
 -- ---- one packet
 

@@ -1,11 +1,9 @@
 -- A run over the profile of a schema, or its first part: what was read and told, until there is a profile.
-use Rattle.std.proofs.Common.{◌≡◌, inl, inr, codes, ℕ, ◌+◌, ◌<◌, List, [], ◌∷◌, ◌++◌, append-nil, append_assoc, drop, length, length-append, map, take, Bool, true, false, Option, Some, None, refl, sym, ap, ◌∙◌, subst, arith}
+use Rattle.std.proofs.Common.{◌≡◌, inl, inr, codes, ℕ, ◌+◌, ◌<◌, List, [], ◌++◌, append-nil, length, length-append, map, take, Bool, true, false, Option, Some, None, refl, sym, ap, ◌∙◌, subst, arith}
 use Rattle.std.proofs.lemmas.Bool.{cases_lt}
 use Rattle.std.proofs.lemmas.List.{take_all, length-take}
-use Rattle.tl_base.proofs.Parts.{written_back}
 use Rattle.tl_base.specs.Contents.{Files}
-use Rattle.tl_base.specs.Outside.{HasFile, IsThere, Written, written_of, with_written}
-use Rattle.tl_base.specs.declared.host.Out.{Out}
+use Rattle.tl_base.specs.Outside.{HasFile, IsThere, Written}
 use Rattle.tl_base.specs.declared.host.Out.TheVariants as outs
 use Rattle.tl_base.specs.declared.host.Slot.TheVariants as slots
 use Rattle.tl_schema.specs.Schemas.{Declared}
@@ -18,14 +16,14 @@ use Rattle.outside.specs.declared.status.Status.{Status}
 use Rattle.outside.specs.declared.status.Status.TheVariants as statuses
 use Rattle.fault_lines.specs.Profiled.{HasProfile, OfProfileFile, form_line}
 use Rattle.fault_lines.specs.Profiled as profiles
-use Rattle.outside.specs.Events.{Event, Outside, opened, took, ended, read_failed, created, put, write_failed, listened, connected, accepted, told}
-use Rattle.outside.specs.Pieces.{joined, ReadsFile, Writes}
+use Rattle.outside.specs.Events.{Event, Outside}
+use Rattle.outside.specs.Pieces.{ReadsFile, Writes}
 use Rattle.outside.specs.Pieces as pieces
 use Rattle.outside.specs.Printing.{Prints, Unread, after_output}
-use Rattle.outside.proofs.Causing.{happened_first, happened_last, keeps_file, keeps_tell, keeps_write, throughout_first, told_status, unread_file, unwritten}
-use Rattle.outside.specs.Fits.{Fits, Happens}
+use Rattle.outside.proofs.Causing.{happened_first, happened_last, keeps_file, throughout_first, told_status, unread_file}
+use Rattle.outside.specs.Fits.{Fits}
 use Rattle.outside.specs.Reliable.{IsReliable}
-use Rattle.outside.proofs.Fitting.{files_are_read, files_can_be_read, fits_both, writes_append}
+use Rattle.outside.proofs.Fitting.{files_are_read, files_can_be_read, fits_both}
 use Rattle.outside.proofs.Sparing.{IsReading, reading_leaves}
 use Rattle.schema_files.specs.Answering.{OfSchemaFile, OfSchemaText}
 use Rattle.schema_files.specs.Answering as answering
@@ -33,7 +31,7 @@ use Rattle.schema_files.specs.Lines.{schema_line}
 use Rattle.schema_files.specs.Loaded.{IsSchemaText}
 use Rattle.schema_files.specs.declared.schema_text.TheConstants.{SCHEMA_BYTES}
 use Rattle.codec_rooms.proofs.TypedFiles.{text_stays}
-use Rattle.session_rooms.proofs.LeftViews.{SparesOutput, SparesRest, all_leave, beside, spares_output, spares_rest}
+use Rattle.session_rooms.proofs.LeftViews.{SparesRest, beside, spares_rest}
 use Rattle.serve_rooms.specs.Acts.{Act, hosted, events_in}
 use Rattle.serve_rooms.specs.Doing.{Hosted}
 use Rattle.serve_rooms.specs.Serve.{EndsBy, LoadsSchema, OfProfile, OfProfiled, OfSchema, OfText, after_loading, after_reading, no_profile, no_schema, profiled, schema_of}
@@ -44,14 +42,9 @@ use Rattle.serve_rooms.specs.declared.status.KeptStatus.{KeptStatus}
 use Rattle.serve_rooms.specs.declared.status.KeptStatus.TheVariants.{Run}
 use Rattle.serve_rooms.proofs.Acting.{events_more}
 use Rattle.serve_rooms.proofs.AnsweredBytes.{added_more, fits_none, fits_parts, nothing_added}
-use Rattle.run_laws.specs.Ended.{ReadFailed, WriteFailed}
+use Rattle.run_laws.specs.Ended.{ErrorsFailed, ReadFailed}
 use Rattle.run_laws.proofs.serving.Beginnings.{Seam, within, past, seam, hosted_both, hosted_events, nothing_follows, some_more}
-
-abbrev pub output_of : Outside → List ℕ
-output_of s = written_of outs.Output s.view
-
-abbrev pub errors_of : Outside → List ℕ
-errors_of s = written_of outs.Errors s.view
+use Rattle.run_laws.proofs.serving.Lines.{errors_of, lined, on_output, output_of, so_prefix, writes_begun}
 
 -- ---- what is left as it was
 
@@ -91,127 +84,41 @@ unsaid : (line : List ℕ) (W Whole : Type 0) (a b : Outside) → ¬ Whole → U
 unsaid line W Whole a b never same =
     record { rest = same.rest; output = same.output; errors = ([], line, refl, same.errors ∙ sym (append-nil (errors_of a))); tells = λ whole. absurd (never whole) }
 
--- ---- what is written
-
-heads : {E : Type 0} (a b : E) (x y : List E) → a ∷ x ≡ b ∷ y → a ≡ b
-heads a b x y e = cc
-
-tails : {E : Type 0} (a b : E) (x y : List E) → a ∷ x ≡ b ∷ y → x ≡ y
-tails a b x y e = ap (λ l. drop 1 l) e
-
--- nothing is written by these
-abbrev Quiet : Out → List Event → Type 0
-Quiet out last = (t u : List Event) (a b : Outside) → t ++ u ≡ last → Fits t a b → written_of out b.view ≡ written_of out a.view
-
-quiet_none : (out : Out) → Quiet out []
-quiet_none out t u a b is f =
-    let stays : b ≡ a = subst (λ (l : List Event). Fits l a b) (nothing_follows t u is) f in
-    ap (λ (o : Outside). written_of out o.view) stays
-
-quiet_failed : (out : Out) → Quiet out (write_failed out ∷ [])
-quiet_failed out [] u a b is f = ap (λ (o : Outside). written_of out o.view) f
-quiet_failed out (e ∷ t) u a b is f =
-    let none : t ≡ [] = nothing_follows t u (tails e (write_failed out) (t ++ u) [] is) in
-    let h : Happens (write_failed out) a f.0 = subst (λ (x : Event). Happens x a f.0) (heads e (write_failed out) (t ++ u) [] is) f.1 in
-    let stays : b ≡ f.0 = subst (λ (l : List Event). Fits l f.0 b) none f.2 in
-    ap (λ (o : Outside). written_of out o.view) stays ∙ ap (written_of out) h.0
-
-pieces_begun : (out : Out) (last : List Event) → Quiet out last → (some : List (List ℕ)) (t u : List Event) (a b : Outside) → t ++ u ≡ map (put out) some ++ last → Fits t a b → AddsPrefix (written_of out a.view) (written_of out b.view) (joined some)
-pieces_begun out last quiet [] t u a b is f = ([], [], refl, quiet t u a b is f ∙ sym (append-nil (written_of out a.view)))
-pieces_begun out last quiet (p ∷ some) [] u a b is f = ([], joined (p ∷ some), refl, ap (λ (o : Outside). written_of out o.view) f ∙ sym (append-nil (written_of out a.view)))
-pieces_begun out last quiet (p ∷ some) (e ∷ t) u a b is f =
-    let h : Happens (put out p) a f.0 = subst (λ (x : Event). Happens x a f.0) (heads e (put out p) (t ++ u) (map (put out) some ++ last) is) f.1 in
-    let (part, more, join, wrote) = pieces_begun out last quiet some t u f.0 b (tails e (put out p) (t ++ u) (map (put out) some ++ last) is) f.2 in
-    let one : written_of out f.0.view ≡ written_of out a.view ++ p = ap (written_of out) h.0 ∙ written_back out (written_of out a.view ++ p) a.view in
-    (p ++ part, more, append_assoc p part more ∙ ap (λ (l : List ℕ). p ++ l) join, wrote ∙ ap (λ (l : List ℕ). l ++ part) one ∙ append_assoc (written_of out a.view) p part)
-
-prefix_longer : (x y part after bytes : List ℕ) → part ++ after ≡ bytes → AddsPrefix x y part → AddsPrefix x y bytes
-prefix_longer x y part after bytes join (some, more, is, wrote) = (some, more ++ after, sym (append_assoc some more after) ∙ ap (λ (l : List ℕ). l ++ after) is ∙ join, wrote)
-
-pub written_begun : (out : Out) (bytes : List ℕ) (ok : Bool) (t u : List Event) (a b : Outside) → Writes out bytes (t ++ u) ok → Fits t a b → AddsPrefix (written_of out a.view) (written_of out b.view) bytes
-written_begun out bytes true t u a b h f = subst (AddsPrefix (written_of out a.view) (written_of out b.view)) h.join (pieces_begun out [] (quiet_none out) h.pieces t u a b h.events f)
-written_begun out bytes false t u a b (part, after, q, join, some) f =
-    prefix_longer (written_of out a.view) (written_of out b.view) part after bytes join
-    (subst (AddsPrefix (written_of out a.view) (written_of out b.view)) q.join (pieces_begun out (write_failed out ∷ []) (quiet_failed out) q.pieces t u a b q.events f))
-
 -- ---- lines
 
-no_errors : outs.Errors ≡ outs.Output → ⊥
-no_errors is = cc
-
-line_tells : (line : List ℕ) (ok : Bool) (t : List Event) (a b : Outside) → Writes outs.Errors line t ok → Fits t a b → AddsPrefix (errors_of a) (errors_of b) line → Tells (WriteFailed t) line a.view b.view
-line_tells line true t a b h f part = inl (writes_append outs.Errors line t a b h f)
-line_tells line false t a b h f part = inr (unwritten outs.Errors line t h, part)
-
-pub tells_said : {A : Type 0} (line : List ℕ) (status : A) (x : A) (t u : List Event) (a b : Outside) → pieces.Tells line status (t ++ u) x → Fits t a b → LineSaid line (WriteFailed t) (u ≡ []) a b
+pub tells_said : {A : Type 0} (line : List ℕ) (status : A) (x : A) (t u : List Event) (a b : Outside) → pieces.Tells line status (t ++ u) x → Fits t a b → LineSaid line (ErrorsFailed t) (u ≡ []) a b
 tells_said line status x t u a b h f =
-    let all : t ++ u ≡ h.first = h.splits ∙ ap (λ (l : List Event). h.first ++ l) h.goes.0 ∙ append-nil h.first in
-    let writes : Writes outs.Errors line (t ++ u) h.between = subst (λ (l : List Event). Writes outs.Errors line l h.between) (sym all) h.does in
-    let part = written_begun outs.Errors line h.between t u a b writes f in
+    let l = lined line status t u x a b h f in
     record {
-      rest = spares_rest t a b (throughout_first SparesRest t u (keeps_tell SparesRest (λ _. tt) tt line status (t ++ u) x h)) f;
-      output = spares_output t a b (throughout_first SparesOutput t u (keeps_tell SparesOutput (λ _. no_errors) tt line status (t ++ u) x h)) f;
-      errors = part;
-      tells = λ none. line_tells line h.between t a b (subst (λ (l : List Event). Writes outs.Errors line l h.between) (ap (λ (l : List Event). t ++ l) none ∙ append-nil t) writes) f part;
+      rest = l.on.rest;
+      output = l.on.output;
+      errors = so_prefix (u ≡ []) (0 < length u) (ErrorsFailed t) line a b l.line_is;
+      tells = λ none. elim l.line_is as (λ z. Tells (ErrorsFailed t) line a.view b.view) [ inl (last, whole) ↦ whole | inr (some, part) ↦ absurd (omega (arith, some, ap length none)) ];
     }
 
 -- ---- nothing on Output
-
-abbrev IsToOutput : Event → Type 0
-IsToOutput (opened slot name ok) = ⊥
-IsToOutput (took slot bytes) = ⊥
-IsToOutput (ended slot) = ⊥
-IsToOutput (read_failed slot) = ⊥
-IsToOutput (created out name ok) = ⊥
-IsToOutput (put out bytes) = out ≡ outs.Output
-IsToOutput (write_failed out) = Unit {0}
-IsToOutput (listened address ok) = ⊥
-IsToOutput (connected address ok) = ⊥
-IsToOutput (accepted ok) = ⊥
-IsToOutput (told moment) = ⊥
-
-put_output : (out : Out) (bytes : List ℕ) (a b : Outside) → b.view ≡ with_written out bytes a.view → out ≡ outs.Output → errors_of b ≡ errors_of a
-put_output outs.Output bytes a b is so = ap (written_of outs.Errors) is
-put_output outs.Errors bytes a b is so = absurd (let no : outs.Errors ≡ outs.Output = so in cc)
-put_output outs.State bytes a b is so = absurd (let no : outs.State ≡ outs.Output = so in cc)
-put_output outs.Link bytes a b is so = absurd (let no : outs.Link ≡ outs.Output = so in cc)
-
-output_leaves : (e : Event) (a b : Outside) → Happens e a b → IsToOutput e → errors_of b ≡ errors_of a
-output_leaves (opened slot name ok) a b h k = absurd k
-output_leaves (took slot bytes) a b h k = absurd k
-output_leaves (ended slot) a b h k = absurd k
-output_leaves (read_failed slot) a b h k = absurd k
-output_leaves (created out name ok) a b h k = absurd k
-output_leaves (put out bytes) a b h k = put_output out (written_of out a.view ++ bytes) a b h.0 k
-output_leaves (write_failed out) a b h k = ap (written_of outs.Errors) h.0
-output_leaves (listened address ok) a b h k = absurd k
-output_leaves (connected address ok) a b h k = absurd k
-output_leaves (accepted ok) a b h k = absurd k
-output_leaves (told moment) a b h k = absurd k
 
 prefix_of_none : (x y : List ℕ) → AddsPrefix x y [] → y ≡ x
 prefix_of_none x y (part, rest, is, wrote) = wrote ∙ ap (λ (l : List ℕ). x ++ l) (nothing_follows part rest is) ∙ append-nil x
 
 nothing_written : (ok : Bool) (t u : List Event) (a b : Outside) → Writes outs.Output [] (t ++ u) ok → Fits t a b → Untouched a b
-nothing_written ok t u a b h f = record {
-  rest = spares_rest t a b (throughout_first SparesRest t u (keeps_write SparesRest outs.Output [] (λ _. tt) tt (t ++ u) ok h)) f;
-  output = prefix_of_none (output_of a) (output_of b) (written_begun outs.Output [] ok t u a b h f);
-  errors = all_leave (written_of outs.Errors) IsToOutput output_leaves t a b (throughout_first IsToOutput t u (keeps_write IsToOutput outs.Output [] (λ _. refl) tt (t ++ u) ok h)) f;
-}
+nothing_written ok t u a b h f =
+    let on = on_output [] t u ok a b h f in
+    record { rest = on.rest; output = prefix_of_none (output_of a) (output_of b) (writes_begun outs.Output [] t u ok a b h f); errors = on.errors }
 
-pub refusal_said : (line : List ℕ) (t u : List Event) (r : Status) (a b : Outside) → Prints (refused line) (t ++ u) r → Fits t a b → (r ≡ statuses.Refused) × LineSaid line (WriteFailed t) (u ≡ []) a b
+pub refusal_said : (line : List ℕ) (t u : List Event) (r : Status) (a b : Outside) → Prints (refused line) (t ++ u) r → Fits t a b → (r ≡ statuses.Refused) × LineSaid line (ErrorsFailed t) (u ≡ []) a b
 refusal_said line t u r a b h f = by_output h.between h.first h.rest h.splits h.does h.goes
   where
-    by_seam : (first rest : List Event) (r : Status) → Writes outs.Output [] first true → pieces.Tells line statuses.Refused rest r → Seam t u first rest → LineSaid line (WriteFailed t) (u ≡ []) a b
+    by_seam : (first rest : List Event) (r : Status) → Writes outs.Output [] first true → pieces.Tells line statuses.Refused rest r → Seam t u first rest → LineSaid line (ErrorsFailed t) (u ≡ []) a b
     by_seam first rest r w g (within more is at some) =
-        unsaid line (WriteFailed t) (u ≡ []) a b (λ none. absurd (omega (arith, some_more u more rest at some, ap length none))) (nothing_written true t more a b (subst (λ (l : List Event). Writes outs.Output [] l true) is w) f)
+        unsaid line (ErrorsFailed t) (u ≡ []) a b (λ none. absurd (omega (arith, some_more u more rest at some, ap length none))) (nothing_written true t more a b (subst (λ (l : List Event). Writes outs.Output [] l true) is w) f)
     by_seam first rest r w g (past more is at) =
         let parts = fits_both first more a b (subst (λ (l : List Event). Fits l a b) is f) in
-        let so : LineSaid line (WriteFailed more) (u ≡ []) parts.0 b = tells_said line statuses.Refused r more u parts.0 b (subst (λ (l : List Event). pieces.Tells line statuses.Refused l r) at g) parts.2 in
-        said_after line (WriteFailed more) (WriteFailed t) (u ≡ []) (u ≡ []) (λ x. subst WriteFailed (sym is) (happened_last _ first more x)) (λ e. e) a parts.0 b
+        let so : LineSaid line (ErrorsFailed more) (u ≡ []) parts.0 b = tells_said line statuses.Refused r more u parts.0 b (subst (λ (l : List Event). pieces.Tells line statuses.Refused l r) at g) parts.2 in
+        said_after line (ErrorsFailed more) (ErrorsFailed t) (u ≡ []) (u ≡ []) (λ x. subst ErrorsFailed (sym is) (happened_last _ first more x)) (λ e. e) a parts.0 b
         (nothing_written true first [] a parts.0 (subst (λ (l : List Event). Writes outs.Output [] l true) (sym (append-nil first)) w) parts.1) so
 
-    by_output : (ok : Bool) (first rest : List Event) → t ++ u ≡ first ++ rest → Writes outs.Output [] first ok → after_output (refused line) ok rest r → (r ≡ statuses.Refused) × LineSaid line (WriteFailed t) (u ≡ []) a b
+    by_output : (ok : Bool) (first rest : List Event) → t ++ u ≡ first ++ rest → Writes outs.Output [] first ok → after_output (refused line) ok rest r → (r ≡ statuses.Refused) × LineSaid line (ErrorsFailed t) (u ≡ []) a b
     by_output true first rest splits w g = (told_status line statuses.Refused rest r g, by_seam first rest r w g (seam t u first rest splits))
     by_output false first rest splits w g = absurd (omega (arith, w.4, ap length w.3, length-append w.0 w.1))
 
@@ -240,8 +147,8 @@ schema_whole file S is =
 -- what loading a schema came to, or its first part
 pub data LoadCame (name : List ℕ) (t u : List Event) (r : Loaded) (a b : Outside) : Type 0 where
   loading : 0 < length u → Untouched a b → LoadCame name t u r a b
-  no_file : ReadFailed t → (IsReliable a → IsThere name a.view → ⊥) → r ≡ schema.Ended statuses.ReadFault → LineSaid read_fault_line (WriteFailed t) (u ≡ []) a b → LoadCame name t u r a b
-  no_text : (line : List ℕ) → OfSchemaFile what (λ S x. ⊥) a.view.files name (refused line) → r ≡ schema.Ended statuses.Refused → LineSaid line (WriteFailed t) (u ≡ []) a b → LoadCame name t u r a b
+  no_file : ReadFailed t → (IsReliable a → IsThere name a.view → ⊥) → r ≡ schema.Ended statuses.ReadFault → LineSaid read_fault_line (ErrorsFailed t) (u ≡ []) a b → LoadCame name t u r a b
+  no_text : (line : List ℕ) → OfSchemaFile what (λ S x. ⊥) a.view.files name (refused line) → r ≡ schema.Ended statuses.Refused → LineSaid line (ErrorsFailed t) (u ≡ []) a b → LoadCame name t u r a b
   read_as : (S : Declared) (text : List ℕ) → HasFile a.view.files name text → IsSchemaText text S → r ≡ schema.Schema S → Untouched a b → LoadCame name t u r a b
 
 -- what ends a step, and nothing more
@@ -253,8 +160,8 @@ by_end S t r h =
 module _ (name : List ℕ) (t u : List Event) (r : Loaded) (a b : Outside) where
   -- the file was read
   module _ (first more : List Event) (is : t ≡ first ++ more) (m : Outside) (f : Fits first a m) (g : Fits more m b) where
-    wrote_later : WriteFailed more → WriteFailed t
-    wrote_later x = subst WriteFailed (sym is) (happened_last _ first more x)
+    wrote_later : ErrorsFailed more → ErrorsFailed t
+    wrote_later x = subst ErrorsFailed (sym is) (happened_last _ first more x)
 
     text_came : (text : List ℕ) → ReadsFile slots.Schema name SCHEMA_BYTES first (Some text) → OfText text (more ++ u) r → LoadCame name t u r a b
     text_came text reads (no_schema cause refuses h) =
@@ -265,7 +172,7 @@ module _ (name : List ℕ) (t u : List Event) (r : Loaded) (a b : Outside) where
         let answers : OfSchemaFile what (λ S x. ⊥) a.view.files name (refused line) =
         (file.0, file.1, text_stays what (λ S x. ⊥) file.0 (refused line) (subst (λ (l : List ℕ). OfSchemaText what (λ S x. ⊥) l (refused line)) file.2 (answering.no_schema cause refuses refl))) in
         no_text line answers (e.2 ∙ ap (λ (s : Status). schema.Ended s) so.0)
-        (said_after line (WriteFailed more) (WriteFailed t) (u ≡ []) (u ≡ []) wrote_later (λ x. x) a m b (file_untouched name (Some text) first [] a m (subst (λ (l : List Event). ReadsFile slots.Schema name SCHEMA_BYTES l (Some text)) (sym (append-nil first)) reads) f) so.1)
+        (said_after line (ErrorsFailed more) (ErrorsFailed t) (u ≡ []) (u ≡ []) wrote_later (λ x. x) a m b (file_untouched name (Some text) first [] a m (subst (λ (l : List Event). ReadsFile slots.Schema name SCHEMA_BYTES l (Some text)) (sym (append-nil first)) reads) f) so.1)
     text_came text reads (schema_of S whole none same) =
         let file = files_are_read slots.Schema name SCHEMA_BYTES first text a m reads f in
         let stays : b ≡ m = subst (λ (l : List Event). Fits l m b) (nothing_follows more u none) g in
@@ -279,7 +186,7 @@ module _ (name : List ℕ) (t u : List Event) (r : Loaded) (a b : Outside) where
         let so = tells_said read_fault_line statuses.ReadFault e.0 more u m b e.1 g in
         no_file (subst ReadFailed (sym is) (happened_first _ first more (unread_file slots.Schema name SCHEMA_BYTES first reads))) (files_can_be_read slots.Schema name SCHEMA_BYTES first a m reads f)
         (e.2 ∙ ap (λ (s : Status). schema.Ended s) (told_status read_fault_line statuses.ReadFault (more ++ u) e.0 e.1))
-        (said_after read_fault_line (WriteFailed more) (WriteFailed t) (u ≡ []) (u ≡ []) wrote_later (λ x. x) a m b (file_untouched name None first [] a m (subst (λ (l : List Event). ReadsFile slots.Schema name SCHEMA_BYTES l None) (sym (append-nil first)) reads) f) so)
+        (said_after read_fault_line (ErrorsFailed more) (ErrorsFailed t) (u ≡ []) (u ≡ []) wrote_later (λ x. x) a m b (file_untouched name None first [] a m (subst (λ (l : List Event). ReadsFile slots.Schema name SCHEMA_BYTES l None) (sym (append-nil first)) reads) f) so)
 
   by_seam : (o : Option (List ℕ)) (first rest : List Event) → ReadsFile slots.Schema name SCHEMA_BYTES first o → after_reading o rest r → Fits t a b → Seam t u first rest → LoadCame name t u r a b
   by_seam o first rest reads h f (within more is at some) =
@@ -316,8 +223,8 @@ any_profile Of files name x (text, has, of) = (text, has, any_of_text Of text x 
 -- what a run over the profile of a schema came to, or its first part
 pub data Came (Rest : OfProfile) (name : List ℕ) (t u : List Act) (r : KeptStatus) (a b : Outside) : Type 0 where
   silent : 0 < length u → Untouched a b → Came Rest name t u r a b
-  unread : ReadFailed (events_in t) → (IsReliable a → IsThere name a.view → ⊥) → r ≡ Run statuses.ReadFault → added_in t ≡ [] → LineSaid read_fault_line (WriteFailed (events_in t)) (u ≡ []) a b → Came Rest name t u r a b
-  refusal : (line : List ℕ) → OfProfileFile (λ p x. ⊥) a.view.files name (refused line) → r ≡ Run statuses.Refused → added_in t ≡ [] → LineSaid line (WriteFailed (events_in t)) (u ≡ []) a b → Came Rest name t u r a b
+  unread : ReadFailed (events_in t) → (IsReliable a → IsThere name a.view → ⊥) → r ≡ Run statuses.ReadFault → added_in t ≡ [] → LineSaid read_fault_line (ErrorsFailed (events_in t)) (u ≡ []) a b → Came Rest name t u r a b
+  refusal : (line : List ℕ) → OfProfileFile (λ p x. ⊥) a.view.files name (refused line) → r ≡ Run statuses.Refused → added_in t ≡ [] → LineSaid line (ErrorsFailed (events_in t)) (u ≡ []) a b → Came Rest name t u r a b
   profile : (h : HasProfile a.view.files name) (events : List Event) (rest : List Act) (m : Outside) → t ≡ map (λ e. hosted e) events ++ rest → Untouched a m → Fits events a m → Fits (events_in rest) m b → Rest h.p (rest ++ u) r → Came Rest name t u r a b
 
 pub none_added : (t more : List Act) (events : List Event) → t ++ more ≡ map (λ e. hosted e) events → added_in t ≡ []
@@ -332,7 +239,7 @@ module _ (Rest : OfProfile) (name : List ℕ) (t u : List Act) (r : KeptStatus) 
     never : ¬ (u ≡ [])
     never none = omega (arith, some_more u more rest at some, ap length none)
 
-    so_far : (line : List ℕ) → LineSaid line (WriteFailed (events_in t)) (events_in more ≡ []) a b → LineSaid line (WriteFailed (events_in t)) (u ≡ []) a b
+    so_far : (line : List ℕ) → LineSaid line (ErrorsFailed (events_in t)) (events_in more ≡ []) a b → LineSaid line (ErrorsFailed (events_in t)) (u ≡ []) a b
     so_far line s = record { rest = s.rest; output = s.output; errors = s.errors; tells = λ none. absurd (never none) }
 
     begun_came : LoadCame name (events_in t) (events_in more) l a b → Came Rest name t u r a b
@@ -355,10 +262,10 @@ module _ (Rest : OfProfile) (name : List ℕ) (t u : List Act) (r : KeptStatus) 
     first_added : more ++ u ≡ [] → added_in t ≡ []
     first_added none = ap added_in is ∙ added_more first more ∙ ap (λ (l : List Entry). l ++ added_in more) (nothing_added first events hosts) ∙ ap added_in (nothing_follows more u none)
 
-    so_far_told : (line : List ℕ) → more ++ u ≡ [] → LineSaid line (WriteFailed events) (◌≡◌ {A = List Event} [] []) a m → LineSaid line (WriteFailed (events_in t)) (u ≡ []) a b
+    so_far_told : (line : List ℕ) → more ++ u ≡ [] → LineSaid line (ErrorsFailed events) (◌≡◌ {A = List Event} [] []) a m → LineSaid line (ErrorsFailed (events_in t)) (u ≡ []) a b
     so_far_told line none s =
-        subst (λ (o : Outside). LineSaid line (WriteFailed (events_in t)) (u ≡ []) a o) (sym (stays_so none))
-        (record { rest = s.rest; output = s.output; errors = s.errors; tells = λ x. subst (λ (l : List Event). Tells (WriteFailed l) line a.view m.view) (sym (first_all none)) (s.tells refl) })
+        subst (λ (o : Outside). LineSaid line (ErrorsFailed (events_in t)) (u ≡ []) a o) (sym (stays_so none))
+        (record { rest = s.rest; output = s.output; errors = s.errors; tells = λ x. subst (λ (l : List Event). Tells (ErrorsFailed l) line a.view m.view) (sym (first_all none)) (s.tells refl) })
 
     schema_came : (S : Declared) (text : List ℕ) → HasFile a.view.files name text → IsSchemaText text S → Untouched a m → OfSchema Rest S (more ++ u) r → Came Rest name t u r a b
     schema_came S text has whole same (no_profile fault lacks h) =
@@ -366,10 +273,10 @@ module _ (Rest : OfProfile) (name : List ℕ) (t u : List Act) (r : KeptStatus) 
         let all : more ++ u ≡ h.first = h.splits ∙ ap (λ (l : List Act). h.first ++ l) h.goes.0 ∙ append-nil h.first in
         let prints : Hosted (Prints (refused line)) (more ++ u) h.between = subst (λ (l : List Act). Hosted (Prints (refused line)) l h.between) (sym all) h.does in
         let so = refusal_said line (events_in more) (events_in u) h.between m b (hosted_both (Prints (refused line)) more u h.between prints) g in
-        let wrote : WriteFailed (events_in more) → WriteFailed (events_in t) = λ x. subst WriteFailed (sym events_are) (happened_last _ events (events_in more) x) in
+        let wrote : ErrorsFailed (events_in more) → ErrorsFailed (events_in t) = λ x. subst ErrorsFailed (sym events_are) (happened_last _ events (events_in more) x) in
         let added : added_in t ≡ [] = ap added_in is ∙ added_more first more ∙ ap (λ (l : List Entry). l ++ added_in more) (nothing_added first events hosts) ∙ none_added more u prints.0 prints.1 in
         refusal line (text, has, answering.schema_of S whole (profiles.no_profile fault lacks refl)) (h.goes.1 ∙ ap (λ (s : Status). Run s) so.0) added
-        (said_after line (WriteFailed (events_in more)) (WriteFailed (events_in t)) (events_in u ≡ []) (u ≡ []) wrote (λ none. ap events_in none) a m b same so.1)
+        (said_after line (ErrorsFailed (events_in more)) (ErrorsFailed (events_in t)) (events_in u ≡ []) (u ≡ []) wrote (λ none. ap events_in none) a m b same so.1)
     schema_came S text has whole same (profiled p answers h) =
         profile (record { text = text; p = p; there = has; is = record { schema = S; read = whole; is = answers } }) events more m (is ∙ ap (λ (l : List Act). l ++ more) hosts) same f g h
 

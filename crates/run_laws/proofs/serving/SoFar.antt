@@ -24,14 +24,15 @@ use Rattle.session_commands.specs.inner.Serving.{GoesOn}
 use Rattle.session_commands.proofs.ServeRuns.{at_zero}
 use Rattle.session_rooms.proofs.LeftViews.{leaves_then}
 use Rattle.serve_rooms.specs.Acts.{Act, events_in}
-use Rattle.serve_rooms.specs.ServedBytes.{added_in, session_answer}
+use Rattle.serve_rooms.specs.ServedBytes.{added_in}
 use Rattle.serve_rooms.specs.Telling.{new_tally}
 use Rattle.serve_rooms.specs.declared.telling.Tally.{Tally}
 use Rattle.serve_rooms.proofs.AnsweredBytes.{added_more}
-use Rattle.run_laws.specs.Ended.{LinkFailed, WriteFailed}
+use Rattle.run_laws.specs.Ended.{ErrorsFailed, LinkFailed}
+use Rattle.run_laws.specs.Sessions.{session_answer}
 use Rattle.run_laws.proofs.serving.Connected.{Connected, Failed}
 use Rattle.run_laws.proofs.serving.Lines.{errors_of, longer, output_of}
-use Rattle.run_laws.proofs.serving.LinkCauses.{link_first, link_last, write_first, write_last}
+use Rattle.run_laws.proofs.serving.LinkCauses.{errors_first, errors_last, link_first, link_last}
 use Rattle.run_laws.proofs.serving.ToldLines.{Says}
 
 -- ---- lines on Errors
@@ -112,7 +113,7 @@ module _ (p : ProfileView) (s : ServerState) (n : ℕ) (R : Type 0) (v : View) w
     pub status : tally.status ≡ total.status
     pub output : output_of b ≡ v.written.output ++ total.output
     pub lines : GoesOn true tally.whole v.written.errors (errors_of b) total.errors
-    pub torn : tally.whole ≡ false → WriteFailed (events_in t)
+    pub torn : tally.whole ≡ false → ErrorsFailed (events_in t)
     pub leaves : Leaves (so_far k total) v b.view
     pub room : b.view.room ≡ v.room
     pub sound : R → IsReliable b
@@ -154,7 +155,7 @@ module _ (p : ProfileView) (s : ServerState) (n : ℕ) (R : Type 0) (v : View) w
     pub errors_is : total.errors ≡ before.errors ++ end_errors e
     pub output : output_of j ≡ v.written.output ++ before.output
     pub lines : GoesOn true tally.whole v.written.errors (errors_of j) before.errors
-    pub torn : tally.whole ≡ false → WriteFailed (events_in t)
+    pub torn : tally.whole ≡ false → ErrorsFailed (events_in t)
     pub leaves : Leaves (so_far (suc k) total) v j.view
     pub room : j.view.room ≡ v.room
     pub sound : R → IsReliable j
@@ -219,14 +220,14 @@ module _ (p : ProfileView) (s : ServerState) (n : ℕ) (R : Type 0) (v : View) w
       errors_is = refl;
       output = c.silent.output ∙ so.output;
       lines = subst (λ (l : List ℕ). GoesOn true tally.whole v.written.errors l so.total.errors) (sym c.silent.errors) so.lines;
-      torn = λ is. subst (λ (l : List Act). WriteFailed (events_in l)) (sym splits) (write_first first acts (so.torn is));
+      torn = λ is. subst (λ (l : List Act). ErrorsFailed (events_in l)) (sym splits) (errors_first first acts (so.torn is));
       leaves = more_leaves k k c.ends c.sent x new so.total v m.view j.view so.leaves (c.leaves k);
       room = (fits_keeps (events_in acts) m j f).room ∙ so.room;
       sound = λ sound. reliable_on m j (fits_keeps (events_in acts) m j f) (so.sound sound);
     }
 
   -- it is told
-  pub one_told : (k : ℕ) (x : ServerState) (tally later : Tally) (e : SessionEnd) (t first acts : List Act) (j b : Outside) → t ≡ first ++ acts → added_in acts ≡ [] → Untold k x tally e first j → Says k e tally later (WriteFailed (events_in acts)) j b → Fits (events_in acts) j b
+  pub one_told : (k : ℕ) (x : ServerState) (tally later : Tally) (e : SessionEnd) (t first acts : List Act) (j b : Outside) → t ≡ first ++ acts → added_in acts ≡ [] → Untold k x tally e first j → Says k e tally later (ErrorsFailed (events_in acts)) j b → Fits (events_in acts) j b
       → SoFar (suc k) x later t b
   one_told k x tally later e t first acts j b splits none so says f =
       let kept = fits_keeps (events_in acts) j b f in
@@ -239,7 +240,7 @@ module _ (p : ProfileView) (s : ServerState) (n : ℕ) (R : Type 0) (v : View) w
         status = says.status ∙ sym so.status;
         output = says.output ∙ ap (λ (l : List ℕ). l ++ end_output k e) so.output ∙ append_assoc v.written.output so.before.output (end_output k e) ∙ ap (λ (l : List ℕ). v.written.output ++ l) (sym so.output_is);
         lines = subst (GoesOn true later.whole v.written.errors (errors_of b)) (sym so.errors_is) (lines_on tally.whole later.whole v.written.errors (errors_of j) (errors_of b) so.before.errors (end_errors e) so.lines says.lines);
-        torn = λ not. subst (λ (l : List Act). WriteFailed (events_in l)) (sym splits) (torn_on tally.whole later.whole ⊥ (WriteFailed (events_in (first ++ acts))) (λ was. write_first first acts (so.torn was)) (λ was is. write_last first acts (says.torn was is)) not);
+        torn = λ not. subst (λ (l : List Act). ErrorsFailed (events_in l)) (sym splits) (torn_on tally.whole later.whole ⊥ (ErrorsFailed (events_in (first ++ acts))) (λ was. errors_first first acts (so.torn was)) (λ was is. errors_last first acts (says.torn was is)) not);
         leaves = leaves_then (so_far (suc k) so.total) v j.view b.view so.leaves says.rest;
         room = kept.room ∙ so.room;
         sound = λ sound. reliable_on j b kept (so.sound sound);

@@ -30,7 +30,8 @@ use Rattle.serve_rooms.specs.Sessions.{Next, more, no_more, after_telling, after
 use Rattle.serve_rooms.specs.Telling.{Told, goes_on, is_over, TellsLine, TellsFault, after_line, fault_told, TellsEnd}
 use Rattle.serve_rooms.specs.declared.status.KeptStatus.TheVariants.{Run}
 use Rattle.serve_rooms.specs.declared.telling.Tally.{Tally}
-use Rattle.run_laws.specs.Ended.{WriteFailed}
+use Rattle.run_laws.specs.Ended.{ErrorsFailed, IsUntold, WriteFailed}
+use Rattle.run_laws.proofs.Untold.{unwritten_errors}
 use Rattle.run_laws.proofs.serving.Beginnings.{Seam, within, past, hosted_both, hosted_events, nothing_after, nothing_follows, seam, some_more}
 use Rattle.run_laws.proofs.serving.Lines.{LineSo, OnErrors, OnOutput, all_added, errors_of, lined, none_added, nothing_on, on_errors, on_output, output_of, so_prefix, writes_begun}
 
@@ -52,7 +53,7 @@ lines_some false true old new line h = absurd h
 lines_some false false old new line h = h
 
 data Lines (before after : Bool) (line : List ℕ) (t u : List Event) (a b : Outside) : Type 0 where
-  whole_line : u ≡ [] → GoesOn before after (errors_of a) (errors_of b) line → (before ≡ true → after ≡ false → WriteFailed t) → Lines before after line t u a b
+  whole_line : u ≡ [] → GoesOn before after (errors_of a) (errors_of b) line → (before ≡ true → after ≡ false → ErrorsFailed t) → Lines before after line t u a b
   part_line : 0 < length u → SomeOf before (errors_of a) (errors_of b) line → Lines before after line t u a b
 
 record Lined (before after : Bool) (line : List ℕ) (t u : List Event) (a b : Outside) : Type 0 where
@@ -61,7 +62,7 @@ record Lined (before after : Bool) (line : List ℕ) (t u : List Event) (a b : O
 
 true_lines : (after : Bool) (line : List ℕ) (t u : List Event) (a b : Outside) → Writes outs.Errors line (t ++ u) after → Fits t a b → Lines true after line t u a b
 true_lines true line t [] a b h f = whole_line refl (writes_append outs.Errors line t a b (subst (λ (l : List Event). Writes outs.Errors line l true) (append-nil t) h) f) (λ _ is. absurd (true≢false is))
-true_lines false line t [] a b h f = whole_line refl (writes_begun outs.Errors line t [] false a b h f) (λ _ _. unwritten outs.Errors line t (subst (λ (l : List Event). Writes outs.Errors line l false) (append-nil t) h))
+true_lines false line t [] a b h f = whole_line refl (writes_begun outs.Errors line t [] false a b h f) (λ _ _. unwritten_errors line t (subst (λ (l : List Event). Writes outs.Errors line l false) (append-nil t) h))
 true_lines after line t (e ∷ u) a b h f = part_line (omega arith) (writes_begun outs.Errors line t (e ∷ u) after a b h f)
 
 line_told : (before after : Bool) (line : List ℕ) (t u : List Event) (a b : Outside) → TellsLine before line (t ++ u) after → Fits t a b → Lined before after line t u a b
@@ -81,28 +82,28 @@ lines_prefix false false old new line h = none_added old new line h
 
 -- ---- how a session's end is told
 
-pub record Says (number : ℕ) (e : SessionEnd) (tally later : Tally) (W : Type 0) (a b : Outside) : Type 0 where
+pub record Says (number : ℕ) (e : SessionEnd) (tally later : Tally) (E : Type 0) (a b : Outside) : Type 0 where
   pub status : later.status ≡ first_fault tally.status (end_status e)
   pub output : output_of b ≡ output_of a ++ end_output number e
   pub lines : GoesOn tally.whole later.whole (errors_of a) (errors_of b) (end_errors e)
-  pub torn : tally.whole ≡ true → later.whole ≡ false → W
+  pub torn : tally.whole ≡ true → later.whole ≡ false → E
   pub rest : beside b.view ≡ beside a.view
 
 -- the line on Output wasn't written whole, and then that is told
-pub record Unwritten (number n : ℕ) (done some W : Type 0) (a b : Outside) : Type 0 where
+pub record Unwritten (number n : ℕ) (done some W E : Type 0) (a b : Outside) : Type 0 where
   pub stopped : Outside
   pub failed : W
   pub output : AddsPrefix (output_of a) (output_of stopped) (served_line number n)
   pub on : OnOutput a stopped
   pub full : IsReliable a → a.view.room < length (output_of a) + length (served_line number n)
   pub after : OnErrors stopped b
-  pub line_is : LineSo done some W write_fault_line stopped b
+  pub line_is : LineSo done some E write_fault_line stopped b
 
 -- All was told, and others may come; a part of it, and more is to come; or the line wasn't written.
-pub data EndTold {R : Type 0} (on : Tally → R) (over_by : Status → R) (number : ℕ) (e : SessionEnd) (tally : Tally) (W none some : Type 0) (r : R) (a b : Outside) : Type 0 where
-  told_all : (later : Tally) → none → r ≡ on later → Says number e tally later W a b → EndTold on over_by number e tally W none some r a b
-  told_some : some → AddsPrefix (output_of a) (output_of b) (end_output number e) → SomeOf tally.whole (errors_of a) (errors_of b) (end_errors e) → EndTold on over_by number e tally W none some r a b
-  unwritten_by : (n : ℕ) → e ≡ served n → Unwritten number n (none × (r ≡ over_by statuses.WriteFault)) some W a b → EndTold on over_by number e tally W none some r a b
+pub data EndTold {R : Type 0} (on : Tally → R) (over_by : Status → R) (number : ℕ) (e : SessionEnd) (tally : Tally) (W E none some : Type 0) (r : R) (a b : Outside) : Type 0 where
+  told_all : (later : Tally) → none → r ≡ on later → Says number e tally later E a b → EndTold on over_by number e tally W E none some r a b
+  told_some : some → AddsPrefix (output_of a) (output_of b) (end_output number e) → SomeOf tally.whole (errors_of a) (errors_of b) (end_errors e) → EndTold on over_by number e tally W E none some r a b
+  unwritten_by : (n : ℕ) → e ≡ served n → Unwritten number n (none × (r ≡ over_by statuses.WriteFault)) some W E a b → EndTold on over_by number e tally W E none some r a b
 
 first_done : (s : Status) → s ≡ first_fault s statuses.Done
 first_done statuses.Done = refl
@@ -123,7 +124,7 @@ not_torn whole W is not = absurd (true≢false (sym is ∙ not))
 
 module _ (number : ℕ) (tally : Tally) (t u : List Event) (r : Told) (a b : Outside) (f : Fits t a b) where
   abbrev pub TellsOf : SessionEnd → Type 0
-  TellsOf e = EndTold goes_on is_over number e tally (WriteFailed t) (u ≡ []) (0 < length u) r a b
+  TellsOf e = EndTold goes_on is_over number e tally (WriteFailed t) (ErrorsFailed t) (u ≡ []) (0 < length u) r a b
 
   -- a fault
   fault_lines : (e : SessionEnd) (line : List ℕ) (status : Status) (after : Bool) → end_status e ≡ status → end_errors e ≡ line → end_output number e ≡ [] → r ≡ goes_on (record { status = first_fault tally.status status; whole = after }) → Lined tally.whole after line t u a b → TellsOf e
@@ -169,7 +170,7 @@ module _ (number : ℕ) (tally : Tally) (t u : List Event) (r : Told) (a b : Out
           status = first_done tally.status;
           output = writes_append outs.Output line t a b h f;
           lines = goes_nowhere tally.whole (errors_of a) (errors_of b) on.errors;
-          torn = not_torn tally.whole (WriteFailed t);
+          torn = not_torn tally.whole (ErrorsFailed t);
           rest = on.rest;
         })
 
@@ -181,7 +182,7 @@ module _ (number : ℕ) (tally : Tally) (t u : List Event) (r : Told) (a b : Out
         let tells : Tells write_fault_line statuses.WriteFault (m ++ u) goes.between = subst (λ (l : List Event). Tells write_fault_line statuses.WriteFault l goes.between) (sym (goes.splits ∙ ap (λ (l : List Event). goes.first ++ l) goes.goes.0 ∙ append-nil goes.first)) goes.does in
         let l = lined write_fault_line statuses.WriteFault m u goes.between k b tells parts.2 in
         let ends : r ≡ is_over statuses.WriteFault = goes.goes.1 ∙ ap is_over l.status_is in
-        let later : WriteFailed m → WriteFailed t = λ w. subst WriteFailed (sym is) (happened_last (IsFailure kinds.Writes) first m w) in
+        let later : ErrorsFailed m → ErrorsFailed t = λ w. subst ErrorsFailed (sym is) (happened_last IsUntold first m w) in
         unwritten_by n refl (record {
           stopped = k;
           failed = subst WriteFailed (sym is) (happened_first (IsFailure kinds.Writes) first m (unwritten outs.Output line first h));
@@ -189,7 +190,7 @@ module _ (number : ℕ) (tally : Tally) (t u : List Event) (r : Told) (a b : Out
           on = on_output line first [] false a k first_nil parts.1;
           full = λ reliable. writes_fail_full outs.Output line first a k h parts.1 reliable;
           after = l.on;
-          line_is = elim l.line_is as (λ z. LineSo ((u ≡ []) × (r ≡ is_over statuses.WriteFault)) (0 < length u) (WriteFailed t) write_fault_line k b) [
+          line_is = elim l.line_is as (λ z. LineSo ((u ≡ []) × (r ≡ is_over statuses.WriteFault)) (0 < length u) (ErrorsFailed t) write_fault_line k b) [
             | inl (none, inl whole) ↦ inl ((none, ends), inl whole)
             | inl (none, inr (failed, prefix)) ↦ inl ((none, ends), inr (later failed, prefix))
             | inr (some, prefix) ↦ inr (some, prefix)
@@ -224,7 +225,7 @@ module _ (number : ℕ) (tally : Tally) (t u : List Event) (r : Told) (a b : Out
 
 module _ (number : ℕ) (tally : Tally) (x : ServerState) (end : Result ℕ SessionFault) (e : SessionEnd) (known : end_of end ≡ Some e) (t u : List Act) (r : Next) (a b : Outside) (f : Fits (events_in t) a b) where
   abbrev pub TellsNext : Type 0
-  TellsNext = EndTold (λ later. more x later) (λ status. no_more (Run status)) number e tally (WriteFailed (events_in t)) (u ≡ []) (0 < length u) r a b
+  TellsNext = EndTold (λ later. more x later) (λ status. no_more (Run status)) number e tally (WriteFailed (events_in t)) (ErrorsFailed (events_in t)) (u ≡ []) (0 < length u) r a b
 
   next_is : (q : Told) (v : List Act) → after_telling x q v r → (v ≡ []) × ((later : Tally) → q ≡ goes_on later → r ≡ more x later) × ((status : Status) → q ≡ is_over status → r ≡ no_more (Run status))
   next_is (goes_on tally) v h = (h.0, λ later is. h.1 ∙ (let same : tally ≡ later = cc in ap (λ (y : Tally). more x y) same), λ status is. absurd cc)
@@ -242,7 +243,7 @@ module _ (number : ℕ) (tally : Tally) (x : ServerState) (end : Result ℕ Sess
           on = w.on;
           full = w.full;
           after = w.after;
-          line_is = inr (some, so_prefix ((events_in m ≡ []) × (q ≡ is_over statuses.WriteFault)) (0 < length (events_in m)) (WriteFailed (events_in t)) write_fault_line w.stopped b w.line_is);
+          line_is = inr (some, so_prefix ((events_in m ≡ []) × (q ≡ is_over statuses.WriteFault)) (0 < length (events_in m)) (ErrorsFailed (events_in t)) write_fault_line w.stopped b w.line_is);
         })
       ]
 
@@ -261,7 +262,7 @@ module _ (number : ℕ) (tally : Tally) (x : ServerState) (end : Result ℕ Sess
           on = w.on;
           full = w.full;
           after = w.after;
-          line_is = elim w.line_is as (λ z. LineSo ((u ≡ []) × (r ≡ no_more (Run statuses.WriteFault))) (0 < length u) (WriteFailed (events_in t)) write_fault_line w.stopped b) [
+          line_is = elim w.line_is as (λ z. LineSo ((u ≡ []) × (r ≡ no_more (Run statuses.WriteFault))) (0 < length u) (ErrorsFailed (events_in t)) write_fault_line w.stopped b) [
             | inl ((last, over_is), tells_it) ↦ inl ((none, ends.2 statuses.WriteFault over_is), tells_it)
             | inr (follows, prefix) ↦ absurd (omega (arith, follows))
           ];

@@ -1,5 +1,0 @@
-use Rattle.codec_rooms.proofs.Checking as laws
-use Rattle.codec_rooms.proofs.laws.check_ends.Goals as goal
-
-pub returns : goal.returns
-returns c = laws.check_ends

@@ -1,5 +1,0 @@
-use Rattle.codec_rooms.proofs.DecodingLaws as laws
-use Rattle.codec_rooms.proofs.laws.decode_reads.Goals as goal
-
-pub returns : goal.returns
-returns c = laws.decode_reads

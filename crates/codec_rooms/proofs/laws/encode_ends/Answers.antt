@@ -1,5 +1,0 @@
-use Rattle.codec_rooms.proofs.EncodingLaws as laws
-use Rattle.codec_rooms.proofs.laws.encode_ends.Goals as goal
-
-pub returns : goal.returns
-returns c = laws.encode_ends

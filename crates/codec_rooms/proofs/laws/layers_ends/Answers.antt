@@ -1,5 +1,0 @@
-use Rattle.codec_rooms.proofs.LayeringLaws as laws
-use Rattle.codec_rooms.proofs.laws.layers_ends.Goals as goal
-
-pub returns : goal.returns
-returns c = laws.layers_ends
