@@ -72,7 +72,10 @@ class Call:
             if found[1] == "ensures":
                 self.clauses.append((found[2] or "-", " ".join(text[found.end() : end - 1].split())))
         found = ANSWER.search(self.signature)
-        self.fault = parameters(found[1])[-1].split("::")[-1].partition("<")[0] if found else None
+        fault = parameters(found[1])[-1] if found else ""
+        # Of `Fault` of `tl_base`: a cause, and memory beside it.
+        self.has_cause = fault.startswith("Fault<")
+        self.fault = fault.removeprefix("Fault<").split("::")[-1].split("<")[0].rstrip(">") or None
 
     @property
     def changes(self):
@@ -171,10 +174,11 @@ class Sources:
 
     def faults(self, call):
         """The refusals that a call's fault type has."""
+        memory = ["Memory"] if call.has_cause else []
         for crate in [call.crate, *self.below[call.crate]]:
             if (crate, call.fault) in self.enums:
-                return self.enums[crate, call.fault]
-        return [call.fault]
+                return [*self.enums[crate, call.fault], *memory]
+        return [call.fault, *memory]
 
 
 class Row:
