@@ -49,17 +49,17 @@ module _ (schema type input : List ℕ) where
 -- ---- why it fails
 
 -- a verdict that no bytes give
-abbrev IsLost : WholeFault → Type 0
+abbrev pub IsLost : WholeFault → Type 0
 IsLost whole.ReadFault = Unit {0}
 IsLost whole.Memory = Unit {0}
 IsLost (whole.Refused place cause) = ⊥
 IsLost (whole.Trailing place) = ⊥
 
-abbrev err_of : WholeFault → Verdict → WholeFault
+abbrev pub err_of : WholeFault → Verdict → WholeFault
 err_of e (Ok v) = e
 err_of e (Err d) = d
 
-err_is : {d e : WholeFault} → ◌≡◌ {A = Verdict} (Err d) (Err e) → d ≡ e
+pub err_is : {d e : WholeFault} → ◌≡◌ {A = Verdict} (Err d) (Err e) → d ≡ e
 err_is {d} {e} is = ap (err_of e) is
 
 module _ (D : Declared) (T : Shape) where
@@ -77,7 +77,7 @@ module _ (D : Declared) (T : Shape) where
   lost_turn bytes t _ e (at_end r is ends) at lost = absurd (never_ends bytes r e ends (left_is at) lost)
   lost_turn bytes t _ e (failed is) at lost = subst (Happened (IsFailure kinds.Reads)) (sym is) (inl refl)
 
-  lost_read : (t : List Event) (e : WholeFault) → ReadsValue D T t (Err e) → IsLost e → Happened (IsFailure kinds.Reads) t
+  pub lost_read : (t : List Event) (e : WholeFault) → ReadsValue D T t (Err e) → IsLost e → Happened (IsFailure kinds.Reads) t
   lost_read t e (at_once why none d is) lost = absurd (never_lost [] why e d (sym (err_is is)) lost)
   lost_read t e (reads o h) lost =
       subst (Happened (IsFailure kinds.Reads)) (sym h.splits) (happened_last (IsFailure kinds.Reads) h.first h.rest (lost_turn h.between h.rest (leave (Err e)) e h.goes refl lost))

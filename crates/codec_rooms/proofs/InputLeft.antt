@@ -5,7 +5,7 @@ use Rattle.codec_rooms.specs.Decode.{Verdict}
 
 -- ---- turns
 
-abbrev leaving : Verdict → Turn (List ℕ) Verdict → Verdict
+abbrev pub leaving : Verdict → Turn (List ℕ) Verdict → Verdict
 leaving r (again s) = r
 leaving r (leave a) = a
 

@@ -8,7 +8,7 @@ pub mod TypedFiles
 pub mod EncodingLaws
 mod Decoding
 mod InputTaken
-mod InputLeft
+pub mod InputLeft
 pub mod DecodingLaws
 mod Layering
 mod Following

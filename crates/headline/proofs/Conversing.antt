@@ -48,7 +48,7 @@ use Rattle.box_world.proofs.SpelledMessages.{are_whole, of_the_kind, read_of}
 use Rattle.box_world.proofs.AnswersFit.{answers_fit}
 use Rattle.box_world.proofs.PushesBelow.{asks_below}
 use Rattle.update_sessions.specs.Exchanges.{Broken, Exchanged, after_all, sends_all}
-use Rattle.update_sessions.specs.Heard.{Hears, IsBrokenOff, asked, broke_off}
+use Rattle.update_sessions.specs.Heard.{Hears, asked, broke_off}
 use Rattle.update_sessions.specs.Hearing.{client_side}
 use Rattle.update_sessions.specs.Honest.{told, told_all}
 use Rattle.update_sessions.specs.Packed.{Came, MeansCall, MeansFrame, Packed, PartlyPacked, SpellsCall, SpellsFrame}
@@ -68,6 +68,7 @@ use Rattle.headline.specs.TwoPrograms.{TwoProgramsMeet}
 use Rattle.headline.proofs.Answered.{answers_bring_up_to_date}
 use Rattle.headline.proofs.LastAnswers.{AgreesAt, grown}
 use Rattle.headline.proofs.Recoveries.{heard_so, past_front}
+use Rattle.headline.proofs.ClientEnding.{unbroken}
 
 -- ---- requests of clients are no posts
 
@@ -303,10 +304,6 @@ module _ (p : ProfileView) (good : IsProfile p) (s : ServerState) (qs : List Num
 pub past_last : (p : Past) (h : List Doing) (x : Doing) → done_all p (h ++ x ∷ []) (length (h ++ x ∷ [])) ≡ done (done_all p h (length h)) x
 past_last p [] x = refl
 past_last p (y ∷ h) x = past_last (done p y) h x
-
-unbroken : (n : ℕ) → IsBrokenOff (Ok n) → ⊥
-unbroken n (inl e) = absurd cc
-unbroken n (inr e) = absurd cc
 
 -- what they came to
 record Met (h : List Doing) (now : ℕ) (c d : ClientState) (t : ServerState) (fs : List Frame) : Type 0 where

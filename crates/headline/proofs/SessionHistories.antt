@@ -39,7 +39,6 @@ use Rattle.update_sessions.specs.Served.{Serves}
 use Rattle.update_sessions.specs.Serving.{after_request, server_side}
 use Rattle.update_sessions.specs.declared.fault.SessionFault.{SessionFault}
 use Rattle.update_sessions.specs.declared.fault.SessionFault.TheVariants as fault
-use Rattle.update_sessions.proofs.Exchanging.{broken_ends}
 use Rattle.session_commands.specs.Serve.{IsAny, Session, SessionEnd, Sessions, Total}
 use Rattle.session_commands.proofs.OneExchange.{rest_bytes}
 use Rattle.session_commands.proofs.OneReply.{body_bytes}
@@ -49,6 +48,7 @@ use Rattle.headline.specs.Histories.{AreDated, AreMoments, HasHistory, Histories
 use Rattle.headline.specs.ReadHistories.{HasBytes, WereRead}
 use Rattle.headline.proofs.Conversing.{each_both, past_last}
 use Rattle.headline.proofs.TextBytes.{call_texts}
+use Rattle.run_laws.proofs.keeping.Entries.{served_by}
 
 -- ---- histories that go on
 
@@ -112,16 +112,6 @@ calls_on R p h s (c ∷ cs) read a =
     on_then R h more (after_all (server_side p) (after_request s c.request) cs) posts_read (calls_on R p (h ++ more) (after_request s c.request) cs (λ r. (read r).1) b)
 
 -- ---- sessions
-
--- the server after a session is that after its calls
-served_by : (p : ProfileView) (s : ServerState) (bytes out : List ℕ) (t : ServerState) (r : Result ℕ SessionFault) (cs : List Numbered) → Serves p s bytes out t r cs → t ≡ after_all (server_side p) s cs
-served_by p s bytes out t (Ok n) cs h = h.0.ends
-served_by p s bytes out t (Err (fault.Packet f)) cs h = h.1.ends
-served_by p s bytes out t (Err (fault.Wire f)) cs h = h.1.ends
-served_by p s bytes out t (Err (fault.Client f)) cs h = absurd h
-served_by p s bytes out t (Err fault.TooManyFrames) cs h = h.1.ends
-served_by p s bytes out t (Err fault.LinkFault) cs h = broken_ends (server_side p) s t bytes out cs h
-served_by p s bytes out t (Err fault.Memory) cs h = broken_ends (server_side p) s t bytes out cs h
 
 -- what stood in the bytes before the calls that came
 record CameRead (cs : List Numbered) (left : List ℕ) : Type 0 where

@@ -8,7 +8,6 @@ pub mod Encoded
 pub mod Ending
 pub mod InputLeft
 pub mod Made
-pub mod Packets
 pub mod Profiled
 pub mod RefusedLonger
 pub mod Replayed

@@ -1,6 +1,5 @@
 -- A server's session over the link in hand, turn by turn.
-use Rattle.std.proofs.Common.{◌≡◌, ℕ, ◌+◌, ◌<◌, ◌≤◌, ltb, Bool, true, false, Option, Some, None, Result, Ok, Err, refl, sym, ap, subst, arith}
-use Rattle.std.proofs.lemmas.Bool.Decides.{nat_tests}
+use Rattle.std.proofs.Common.{◌≡◌, ℕ, ◌+◌, ◌<◌, ◌≤◌, ltb, Bool, true, false, Option, Some, None, Result, Ok, Err, refl, sym, ap, subst}
 use Rattle.box_server.specs.Servers.{ServerState}
 use Rattle.wire_profile.specs.Indexes.{ProfileView}
 use Rattle.outside.specs.Steps.{Ends, Loops, Turn, again, leave}
@@ -17,12 +16,7 @@ use Rattle.box_server.specs.declared.store_fault.KeepFault.TheVariants as keepin
 use Rattle.serve_rooms.specs.inner.Ends.{answered_as, answered_by, end_at, session_by}
 use Rattle.serve_rooms.proofs.Doing.{Turned, can_end, did_nothing, did_stop, did_then, loop_left, loop_stopped, turned_more}
 use Rattle.serve_rooms.proofs.Answered.{leaves_at}
-
-pub is_less : (a b : ℕ) → a < b → ltb a b ≡ true
-is_less a b lt = grind (arith, nat_tests)
-
-pub not_less : (a b : ℕ) → b ≤ a → ltb a b ≡ false
-not_less a b le = grind (arith, nat_tests)
+use Rattle.session_rooms.proofs.Conversations.{is_less, not_less}
 
 module _ (p : ProfileView) where
   module _ (s : ServerState) (n : ℕ) (q r : KeptState) where

@@ -26,7 +26,7 @@ use Rattle.serve_rooms.specs.Sessions.{Next, more, no_more, keep_fault_line, Tel
 use Rattle.serve_rooms.specs.declared.status.KeptStatus.{KeptStatus}
 use Rattle.serve_rooms.specs.declared.status.KeptStatus.TheVariants.{Run, KeepFault}
 use Rattle.serve_rooms.specs.declared.telling.Tally.{Tally}
-use Rattle.serve_rooms.proofs.AnsweredAll.{is_less, not_less}
+use Rattle.session_rooms.proofs.Conversations.{is_less, not_less}
 use Rattle.serve_rooms.proofs.Answered.{lost_at_fault}
 use Rattle.serve_rooms.proofs.Doing.{Turned, Leaves, can_end, can_host, can_last, can_then, can_then_by, did_host, did_last, did_nothing, did_stop, did_then, kept_hosted_all, loop_left, loop_stopped, turned_more}
 use Rattle.serve_rooms.proofs.ToldEnds.{can_tell_end}

@@ -55,6 +55,7 @@ use Rattle.serve_rooms.specs.declared.telling.Tally.{Tally}
 use Rattle.serve_rooms.proofs.Acting.{events_more, events_hosted}
 use Rattle.serve_rooms.proofs.Connections.{faulty}
 use Rattle.serve_rooms.proofs.Touching.{keeps_load, tells, prints_refusal, keeps_last, keeps_opening, keeps_begun_kept, IsTouched, touched, keeps_serve, keeps_keep}
+use Rattle.session_rooms.proofs.ClientLaws.{IsBlamed, IsEnded, has_line}
 
 -- no run of `serve` does anything else, also one that runs out of memory
 pub serve_touches : (schema address : List ℕ) (sessions : ℕ) (t : List Event) (status : Status) → RunsIn to_serve (serves schema address sessions) t status → Throughout (IsOfServe schema address) t
@@ -141,11 +142,6 @@ host_events t events is = ap events_in is ∙ events_hosted events
 came_first : (t u : List Act) → Happened IsFromLink (events_in t) → Happened IsFromLink (events_in (t ++ u))
 came_first = at_first (Happened IsFromLink) (happened_first IsFromLink)
 
--- what a fault is told by has its cause: a line's is that something came over the link; without one the link failed
-abbrev IsBlamed : Option (List ℕ) → List Event → Type 0
-IsBlamed (Some line) t = Happened IsFromLink t
-IsBlamed None t = Happened (IsFailure kinds.Links) t
-
 blamed_first : (line : Option (List ℕ)) (t u : List Event) → IsBlamed line t → IsBlamed line (t ++ u)
 blamed_first (Some line) t u h = happened_first IsFromLink t u h
 blamed_first None t u h = happened_first (IsFailure kinds.Links) t u h
@@ -153,12 +149,6 @@ blamed_first None t u h = happened_first (IsFailure kinds.Links) t u h
 blamed_last : (line : Option (List ℕ)) (t u : List Event) → IsBlamed line u → IsBlamed line (t ++ u)
 blamed_last (Some line) t u h = happened_last IsFromLink t u h
 blamed_last None t u h = happened_last (IsFailure kinds.Links) t u h
-
-abbrev IsEnded : SessionFault → List Event → Type 0
-IsEnded fault t = IsBlamed (session_line fault) t
-
-has_line : (fault : SessionFault) (t : List Event) (line : List ℕ) → session_line fault ≡ Some line → Happened IsFromLink t → IsEnded fault t
-has_line fault t line is came = subst (λ (o : Option (List ℕ)). IsBlamed o t) (sym is) came
 
 -- ---- a packet
 

@@ -106,7 +106,7 @@ client_touches schema address state channels t s (runs.out_of_memory h) =
 -- ---- causes
 
 -- what a fault is told by has its cause: a line's is that something came over the link; without one the link failed
-abbrev IsBlamed : Option (List ℕ) → List Event → Type 0
+abbrev pub IsBlamed : Option (List ℕ) → List Event → Type 0
 IsBlamed (Some line) t = Happened IsFromLink t
 IsBlamed None t = Happened (IsFailure kinds.Links) t
 
@@ -119,7 +119,7 @@ blamed_last (Some line) t u h = happened_last IsFromLink t u h
 blamed_last None t u h = happened_last (IsFailure kinds.Links) t u h
 
 -- a session that ended by this fault
-abbrev IsEnded : SessionFault → List Event → Type 0
+abbrev pub IsEnded : SessionFault → List Event → Type 0
 IsEnded fault t = IsBlamed (session_line fault) t
 
 ended_first : (fault : SessionFault) (t u : List Event) → IsEnded fault t → IsEnded fault (t ++ u)
@@ -135,7 +135,7 @@ ended_as fault other t is h = subst (λ (f : SessionFault). IsEnded f t) (sym is
 same_fault : (fault other : SessionFault) → ◌≡◌ {A = Outcome} (Err fault) (Err other) → fault ≡ other
 same_fault fault other is = cc
 
-has_line : (fault : SessionFault) (t : List Event) (line : List ℕ) → session_line fault ≡ Some line → Happened IsFromLink t → IsEnded fault t
+pub has_line : (fault : SessionFault) (t : List Event) (line : List ℕ) → session_line fault ≡ Some line → Happened IsFromLink t → IsEnded fault t
 has_line fault t line is came = subst (λ (o : Option (List ℕ)). IsBlamed o t) (sym is) came
 
 module _ (p : ProfileView) (fault : SessionFault) where

@@ -36,10 +36,10 @@ use Rattle.session_rooms.specs.Conversing.{Outcome, Asks, after_asking, HearsByt
 use Rattle.session_rooms.proofs.Conversed.{may_ask, may_hear}
 use Rattle.session_rooms.proofs.SentMessages.{can_send}
 
-is_less : (a b : ℕ) → a < b → ltb a b ≡ true
+pub is_less : (a b : ℕ) → a < b → ltb a b ≡ true
 is_less a b lt = grind (arith, nat_tests)
 
-not_less : (a b : ℕ) → b ≤ a → ltb a b ≡ false
+pub not_less : (a b : ℕ) → b ≤ a → ltb a b ≡ false
 not_less a b le = grind (arith, nat_tests)
 
 module _ (p : ProfileView) where

@@ -9,7 +9,6 @@ pub mod PostLaws
 pub mod LeftPackets
 pub mod ConversedBytes
 pub mod LeftViews
-pub mod PacketsLeft
 pub mod PostFiles
 pub mod PostLeaving
 pub mod PostUnfailing

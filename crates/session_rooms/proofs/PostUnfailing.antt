@@ -47,7 +47,7 @@ use Rattle.session_commands.proofs.EachPost.{BeginsPacket, BeginsNone, begins_so
 use Rattle.session_commands.proofs.OnePost.{one_post}
 use Rattle.session_commands.proofs.OneReply.{body_bytes}
 use Rattle.session_rooms.specs.Post.{CallsOver, OfCall, no_call, long_call, calls_it, OfInputFile, OfText, no_json, json_of, after_connect, after_packet, after_reading, after_sending, posts, told_as}
-use Rattle.session_rooms.proofs.PacketsLeft.{packet_left, rest_of}
+use Rattle.session_rooms.proofs.LeftPackets.{packet_left, rest_of}
 use Rattle.session_rooms.proofs.PostFiles.{IsTold, OfInput, json_stays, last_push, linked, output_of, shown_of}
 use Rattle.session_rooms.proofs.Spared.{OnlySlots, reading_spares, writes_spare}
 
@@ -85,7 +85,7 @@ outcome_told (peer line) t r s n h f reliable room = tell_told line PeerFault r 
 
 -- ---- a packet is taken
 
-abbrev IsTaken : Event → Type 0
+abbrev pub IsTaken : Event → Type 0
 IsTaken (opened slot name ok) = ⊥
 IsTaken (took slot bytes) = Unit {0}
 IsTaken (ended slot) = Unit {0}
@@ -98,7 +98,7 @@ IsTaken (connected address ok) = ⊥
 IsTaken (accepted ok) = ⊥
 IsTaken (told moment) = ⊥
 
-taken_fails : (k : Kind) (e : Event) (s n : Outside) → Happens e s n → IsReliable s → IsTaken e → IsFailure k e → ⊥
+pub taken_fails : (k : Kind) (e : Event) (s n : Outside) → Happens e s n → IsReliable s → IsTaken e → IsFailure k e → ⊥
 taken_fails k (opened slot name ok) s n h r is fails = is
 taken_fails k (took slot bytes) s n h r is fails = let no : None ≡ Some k = fails in cc
 taken_fails k (ended slot) s n h r is fails = let no : None ≡ Some k = fails in cc
@@ -111,7 +111,7 @@ taken_fails k (connected address ok) s n h r is fails = is
 taken_fails k (accepted ok) s n h r is fails = is
 taken_fails k (told moment) s n h r is fails = is
 
-taken_never : (k : Kind) (t : List Event) (s n : Outside) → Fits t s n → IsReliable s → Throughout IsTaken t → Happened (IsFailure k) t → ⊥
+pub taken_never : (k : Kind) (t : List Event) (s n : Outside) → Fits t s n → IsReliable s → Throughout IsTaken t → Happened (IsFailure k) t → ⊥
 taken_never k [] s n f r are fails = fails
 taken_never k (e ∷ t) s n f r are (inl here) = taken_fails k e s f.0 f.1 r are.0 here
 taken_never k (e ∷ t) s n f r are (inr later) = taken_never k t f.0 n f.2 (reliable_on s f.0 (fits_keeps (e ∷ []) s f.0 (f.0, f.1, refl)) r) are.1 later

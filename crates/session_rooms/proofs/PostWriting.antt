@@ -46,7 +46,7 @@ use Rattle.session_commands.specs.Post.{Outcome, OfLink, OfSent, PostAnswer, ans
 use Rattle.session_commands.specs.Post as answer
 use Rattle.session_rooms.specs.Post.{CallsOver, OfCall, no_call, long_call, calls_it, OfInputFile, OfText, no_json, json_of, after_connect, after_packet, after_reading, after_sending, posts, told_as}
 use Rattle.session_rooms.specs.PostWrites.{PostWrites, WritesNone, WritesSome}
-use Rattle.session_rooms.proofs.PacketsLeft.{packet_left, rest_of}
+use Rattle.session_rooms.proofs.LeftPackets.{packet_left, rest_of}
 use Rattle.session_rooms.proofs.PostFiles.{OfInput, aside, json_stays, linked, output_of, sent_bytes, shown_of}
 use Rattle.session_rooms.proofs.PostUnfailing.{some_outcome}
 use Rattle.session_rooms.proofs.Spared.{OnlySlots, reading_spares, writes_spare}

@@ -8,7 +8,7 @@ use Rattle.update_replay.specs.declared.fault.ReplayFault.{ReplayFault}
 use Rattle.update_replay.specs.declared.fault.ReplayFault.TheVariants as replay
 use Rattle.update_commands.specs.Replay.{ending_answer}
 use Rattle.update_commands.specs.Replaying.{stop_line}
-use Rattle.update_commands.specs.Steps.{unmade_line}
+use Rattle.update_commands.specs.Steps.{step_fault_line}
 
 -- ---- endings as they are told
 
@@ -21,7 +21,7 @@ same_fault f g e = cc
 no_fault : {P : Type 0} (f : ReplayFault) (k : ℕ) → err f ≡ Ok k → P
 no_fault f k e = absurd cc
 
-cause_told : (output : List ℕ) (at : ℕ) (cause : StepCause) (line : List ℕ) → Some (unmade_line at (fault_of cause)) ≡ Some line → ending_answer output (not_made at cause) ≡ Some (refused_after output line)
+cause_told : (output : List ℕ) (at : ℕ) (cause : StepCause) (line : List ℕ) → Some (step_fault_line at (fault_of cause)) ≡ Some line → ending_answer output (not_made at cause) ≡ Some (refused_after output line)
 cause_told output at (no_client n) line tells = ap (option_map (refused_after output)) tells
 cause_told output at (no_packet n) line tells = ap (option_map (refused_after output)) tells
 cause_told output at (wrong_end n) line tells = ap (option_map (refused_after output)) tells

@@ -6,14 +6,14 @@ use Rattle.update_replay.specs.Replays.{goes_on, seen_of}
 use Rattle.update_replay.specs.declared.fault.ReplayFault.{ReplayFault}
 use Rattle.update_replay.specs.declared.fault.ReplayFault.TheVariants as replay
 use Rattle.update_commands.specs.Replay.{long_line}
-use Rattle.update_commands.specs.Steps.{unmade_line}
+use Rattle.update_commands.specs.Steps.{step_fault_line}
 
 -- ---- stops
 
 -- the line of why a replay stopped at its journal; a fault of the outside, or of memory, has none
 abbrev pub stop_line : ReplayFault → Option (List ℕ)
 stop_line (replay.Wire at fault) = Some (step_line at fault)
-stop_line (replay.Step at fault) = Some (unmade_line at fault)
+stop_line (replay.Step at fault) = Some (step_fault_line at fault)
 stop_line (replay.TooLong at) = Some (long_line at)
 stop_line replay.ReadFault = None
 stop_line replay.WriteFault = None

@@ -23,5 +23,5 @@ cause_of (fault.WrongEnd n) = wrong_end n
 cause_of (fault.PoolFull bytes) = pool_full bytes
 
 -- of a step that isn't made
-abbrev pub unmade_line : ℕ → StepFault → List ℕ
-unmade_line at e = cause_line at (cause_of e)
+abbrev pub step_fault_line : ℕ → StepFault → List ℕ
+step_fault_line at e = cause_line at (cause_of e)

@@ -11,4 +11,4 @@ pub use laws::{journals_have_one_answer, made_runs_have_one_answer};
 pub use make::run_text;
 pub use make_work::{make_run, run_make};
 pub use replay::{replay_journal, run_replay};
-pub use steps::unmade_line;
+pub use steps::step_fault_line;

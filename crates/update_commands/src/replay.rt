@@ -15,7 +15,7 @@ ghost use Rattle.update_commands.specs.Profile.{OfProfile};
 ghost use Rattle.update_commands.specs.ReplayWork.{replays, replays_by};
 ghost use Rattle.update_commands.specs.inner.Stops.{TellsStop};
 
-use crate::unmade_line;
+use crate::step_fault_line;
 use fault_lines::{profile_of, step_line};
 use outside::{Host, Status, finish, placed_line, print, print_made, read_file, tell, write_out};
 use schema_files::{SCHEMA_BYTES, schema_of};
@@ -31,7 +31,7 @@ fn stop_line(alloc: Global, fault: ReplayFault) -> Result<Vec<u8>, AllocError>
 {
     match fault {
         ReplayFault::Wire { at, fault } => step_line(alloc, at as u64, fault),
-        ReplayFault::Step { at, fault } => unmade_line(alloc, at as u64, fault),
+        ReplayFault::Step { at, fault } => step_fault_line(alloc, at as u64, fault),
         ReplayFault::TooLong { at } => placed_line(alloc, "journal", at as u64, "TooLong"),
         // A replay in memory stops for want of memory else.
         _ => Err(AllocError),

@@ -1,6 +1,6 @@
 //! Steps that aren't made in a world.
 ghost use Rattle.std.specs.Prelude.{◌≡◌, IfOk, string_bytes};
-ghost use Rattle.update_commands.specs.Steps.{cause_of, cause_words, unmade_line};
+ghost use Rattle.update_commands.specs.Steps.{cause_of, cause_words, step_fault_line};
 
 use outside::placed_line;
 use std::alloc::{AllocError, Global};
@@ -19,8 +19,8 @@ fn cause_words(alloc: Global, fault: StepFault) -> Result<String, AllocError>
 }
 
 /// The line of a step that isn't made, at the offset where it begins in the journal.
-pub fn unmade_line(alloc: Global, at: u64, fault: StepFault) -> Result<Vec<u8>, AllocError>
-    ensures { IfOk result (λ line. line.items ≡ unmade_line at fault) }
+pub fn step_fault_line(alloc: Global, at: u64, fault: StepFault) -> Result<Vec<u8>, AllocError>
+    ensures { IfOk result (λ line. line.items ≡ step_fault_line at fault) }
 {
     let why = cause_words(alloc, fault)?;
     placed_line(alloc, "journal", at, why.as_str())

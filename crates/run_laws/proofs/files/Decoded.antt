@@ -15,8 +15,8 @@ use Rattle.outside.specs.declared.status.Status.{Status}
 use Rattle.outside.proofs.SameFiles.{same_file}
 use Rattle.outside.specs.Events.{Event, Outside, opened}
 use Rattle.outside.specs.Laws.{Happened, IsFailure, Throughout}
-use Rattle.outside.specs.Steps.{Turn, again, leave, Calls, Then}
-use Rattle.outside.proofs.Causing.{happened_last, keeps_call}
+use Rattle.outside.specs.Steps.{Calls, Then}
+use Rattle.outside.proofs.Causing.{keeps_call}
 use Rattle.outside.specs.Fits.{Fits}
 use Rattle.outside.specs.Reliable.{IsMissing}
 use Rattle.outside.proofs.Fitting.{fits_keeps, reads_fail_alone, reliable_on}
@@ -25,12 +25,13 @@ use Rattle.codec_commands.specs.Decode.{DecodeAnswer, OfInput, decode_job}
 use Rattle.codec_commands.specs.Decode as answer
 use Rattle.codec_commands.specs.Typed.{HasPlannedType, OfType, ReachesInput}
 use Rattle.codec_commands.proofs.OneDecode.{one_decode}
-use Rattle.codec_rooms.specs.Decode.{Verdict, Decides, faulty, longer, HasVerdict, cut_off, is_value, ReadsOn, more, decided, at_end, failed, ReadsValue, at_once, reads, answer_of, printed, after_reading, after_opening, OfBytes, decodes, decodes_by}
+use Rattle.codec_rooms.specs.Decode.{Verdict, faulty, longer, ReadsValue, answer_of, printed, after_reading, after_opening, OfBytes, decodes, decodes_by}
 use Rattle.codec_rooms.proofs.InputRead.{keeps_value}
+use Rattle.codec_rooms.proofs.DecodingLaws.{IsLost, lost_read}
 use Rattle.run_laws.specs.Ended.{RunsJob}
 use Rattle.run_laws.proofs.files.Coming.{Comes, ComesTo, unread, comes_after, comes_as, comes_print, comes_then, none_missing}
 use Rattle.run_laws.proofs.files.Ending.{IsPrinted, done_printed, refused_printed, runs_silent}
-use Rattle.run_laws.proofs.files.InputLeft.{left_is, value_meant}
+use Rattle.run_laws.proofs.files.InputLeft.{value_meant}
 use Rattle.run_laws.proofs.files.Schemas.{Reached, ToFile, comes_schema, comes_word, file_printed, type_printed}
 use Rattle.run_laws.proofs.files.Spared.{IsFileRead}
 
@@ -39,42 +40,7 @@ input_printed S T bytes a (answer.whole v spells deep is) = done_printed _ a is
 input_printed S T bytes a (answer.longer v x rest b split spells deep is) = refused_printed _ a is
 input_printed S T bytes a (answer.faulty at why r is) = refused_printed _ a is
 
--- ---- why it fails
-
--- a verdict that no bytes give
-abbrev IsLost : WholeFault → Type 0
-IsLost whole.ReadFault = Unit {0}
-IsLost whole.Memory = Unit {0}
-IsLost (whole.Refused place cause) = ⊥
-IsLost (whole.Trailing place) = ⊥
-
-abbrev err_of : WholeFault → Verdict → WholeFault
-err_of e (Ok v) = e
-err_of e (Err d) = d
-
-err_is : {d e : WholeFault} → ◌≡◌ {A = Verdict} (Err d) (Err e) → d ≡ e
-err_is {d} {e} is = ap (err_of e) is
-
 module _ (D : Declared) (T : Shape) where
-  never_lost : (bytes : List ℕ) (why e : WholeFault) → Decides D T bytes why → why ≡ e → IsLost e → ⊥
-  never_lost bytes _ e (faulty offset cause not r) is lost = subst IsLost (sym is) lost
-  never_lost bytes _ e (longer v x rest split some spells deep) is lost = subst IsLost (sym is) lost
-
-  never_ends : (bytes : List ℕ) (r : Verdict) (e : WholeFault) → HasVerdict D T bytes r → r ≡ Err e → IsLost e → ⊥
-  never_ends bytes _ e (cut_off offset r) is lost = subst IsLost (sym (err_is is)) lost
-  never_ends bytes _ e (is_value v spells deep) is lost = absurd (let no : Ok v ≡ Err e = is in cc)
-
-  lost_turn : (bytes : List ℕ) (t : List Event) (x : Turn (List ℕ) Verdict) (e : WholeFault) → ReadsOn D T bytes t x → x ≡ leave (Err e) → IsLost e → Happened (IsFailure kinds.Reads) t
-  lost_turn bytes t _ e (more piece is o) at lost = absurd (let no : again (bytes ++ piece) ≡ leave (Err e) = at in cc)
-  lost_turn bytes t _ e (decided piece why is d) at lost = absurd (never_lost (bytes ++ piece) why e d (err_is (left_is at)) lost)
-  lost_turn bytes t _ e (at_end r is ends) at lost = absurd (never_ends bytes r e ends (left_is at) lost)
-  lost_turn bytes t _ e (failed is) at lost = subst (Happened (IsFailure kinds.Reads)) (sym is) (inl refl)
-
-  lost_read : (t : List Event) (e : WholeFault) → ReadsValue D T t (Err e) → IsLost e → Happened (IsFailure kinds.Reads) t
-  lost_read t e (at_once why none d is) lost = absurd (never_lost [] why e d (sym (err_is is)) lost)
-  lost_read t e (reads o h) lost =
-      subst (Happened (IsFailure kinds.Reads)) (sym h.splits) (happened_last (IsFailure kinds.Reads) h.first h.rest (lost_turn h.between h.rest (leave (Err e)) e h.goes refl lost))
-
   -- ---- what is left of Input
 
   abbrev OfLeft : Outside → Answer → Type 0
@@ -90,7 +56,7 @@ module _ (D : Declared) (T : Shape) where
 
   value_lost : (e : WholeFault) (t u v : List Event) (status : Status) (s m : Outside) → IsLost e → ReadsValue D T t (Err e) → printed None (u ++ v) status → Fits t s m → ComesTo (OfLeft s) (Reached s) s (t ++ u) v status
   value_lost e t u v status s m lost read h f =
-      let fails = lost_read t e read lost in
+      let fails = lost_read D T t e read lost in
       unread t u refl (value_reads t (Err e) read) (inr tt) fails h
       (λ r a is. none_missing s t (keeps_value D T (λ x. IsMissing s x → ⊥) (λ bytes no. no) (λ no. no) (λ no. no) t (Err e) read) (reads_fail_alone t s m f r fails))
 

@@ -17,15 +17,9 @@ use Rattle.codec_commands.specs.Decode.{OfInput}
 use Rattle.codec_commands.specs.Decode as answer
 use Rattle.codec_rooms.specs.Decode.{Verdict, Decides, faulty, longer, HasVerdict, cut_off, is_value, ReadsOn, more, decided, at_end, failed, ReadsValue, at_once, reads, answer_of}
 use Rattle.run_laws.proofs.files.RefusedLonger.{refused_longer}
+use Rattle.codec_rooms.proofs.InputLeft.{left_is}
 
 -- ---- turns
-
-abbrev leaving : Verdict → Turn (List ℕ) Verdict → Verdict
-leaving r (again s) = r
-leaving r (leave a) = a
-
-pub left_is : {a b : Verdict} → ◌≡◌ {A = Turn (List ℕ) Verdict} (leave a) (leave b) → a ≡ b
-left_is {a} {b} is = ap (leaving b) is
 
 abbrev going : List ℕ → Turn (List ℕ) Verdict → List ℕ
 going s (again n) = n

@@ -32,9 +32,9 @@ use Rattle.call_commands.specs.Calls.{OfPackets}
 use Rattle.call_commands.specs.Calls as answers
 use Rattle.call_commands.proofs.EachFile.{answered_next, output_after}
 use Rattle.call_commands.specs.CallsWork.{SoFar, so_far, Last, TellsRefusal, after_line, after_packet, end_of, OfPacket, no_packet, too_long, told, TellsNext, TellsPackets}
+use Rattle.session_rooms.proofs.LeftPackets.{packet_left}
 use Rattle.run_laws.proofs.files.Coming.{Spares, none_missing}
 use Rattle.run_laws.proofs.files.Cutting.{Cut, past, within, cut, some_more}
-use Rattle.run_laws.proofs.files.Packets.{packet_left}
 use Rattle.run_laws.proofs.files.Spared.{IsDry, IsFileRead, ToOutput, dry_keeps, output_left, reads_to_errors, reads_to_output}
 use Rattle.run_laws.proofs.serving.Lines.{writes_begun, writes_some}
 

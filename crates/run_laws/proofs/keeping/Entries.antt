@@ -77,7 +77,7 @@ used_by old new t Failed P g cause never = record {
 -- ---- the server that they rebuild
 
 -- the server after a session is that after its calls
-served_by : (p : ProfileView) (s : ServerState) (bytes out : List ℕ) (t : ServerState) (r : Result ℕ SessionFault) (cs : List Numbered) → Serves p s bytes out t r cs → t ≡ after_all (server_side p) s cs
+pub served_by : (p : ProfileView) (s : ServerState) (bytes out : List ℕ) (t : ServerState) (r : Result ℕ SessionFault) (cs : List Numbered) → Serves p s bytes out t r cs → t ≡ after_all (server_side p) s cs
 served_by p s bytes out t (Ok n) cs h = h.0.ends
 served_by p s bytes out t (Err (fault.Packet f)) cs h = h.1.ends
 served_by p s bytes out t (Err (fault.Wire f)) cs h = h.1.ends

@@ -32,7 +32,7 @@ use Rattle.session_commands.specs.Post.{IsWordLong, Outcome, OfLink, OfSent, Pos
 use Rattle.session_commands.specs.Post as answer
 use Rattle.session_rooms.specs.Post.{CallsOver, OfCall, no_call, long_call, calls_it, OfInputFile, OfText, no_json, json_of, after_connect, after_packet, after_reading, after_sending, posts, told_as}
 use Rattle.session_rooms.proofs.LeftViews.{IsOverLink, beside, leaves_then, link_left}
-use Rattle.session_rooms.proofs.PacketsLeft.{packet_left, rest_of}
+use Rattle.session_rooms.proofs.LeftPackets.{packet_left, rest_of}
 use Rattle.session_rooms.proofs.PostFiles.{json_stays, linked, output_of, shown_of}
 use Rattle.session_rooms.proofs.Spared.{OnlySlots, reading_spares, writes_spare}
 use Rattle.run_laws.proofs.links.Coming.{Came, gave, cut, unfinished, came_as, came_later, Comes, command_comes, file_comes, missing_comes, refusal_comes}

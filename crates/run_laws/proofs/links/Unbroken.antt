@@ -1,10 +1,9 @@
 -- A client's session never fails by its link, where no call was told to fail and there is room for what a session sends that ends over the same bytes.
-use Rattle.std.proofs.Common.{◌≡◌, ℕ, ◌+◌, ◌<◌, ◌≤◌, ltb, List, [], ◌∷◌, ◌++◌, append_assoc, append-nil, length, length-append, Bool, true, false, Some, None, Ok, Err, refl, sym, ap, ◌∙◌, subst, inl, inr, arith}
+use Rattle.std.proofs.Common.{◌≡◌, ℕ, ◌+◌, ◌<◌, ◌≤◌, ltb, List, [], ◌∷◌, ◌++◌, append_assoc, append-nil, length, length-append, Bool, true, false, Ok, Err, refl, sym, ap, ◌∙◌, subst, arith}
 use Rattle.std.proofs.lemmas.Bool.{ltb-true}
 use Rattle.tl_numbers.specs.Bytes.{AreBytes}
 use Rattle.tl_base.specs.Kinds.{slot_kind}
 use Rattle.tl_base.specs.Outside.{left_of}
-use Rattle.tl_base.specs.declared.counts.Kind.{Kind}
 use Rattle.tl_base.specs.declared.host.Out.TheVariants as outs
 use Rattle.tl_base.specs.declared.host.Slot.TheVariants.{Link}
 use Rattle.tl_base.specs.declared.packet.PacketFault.TheVariants.{BadLength, Ended}
@@ -14,14 +13,13 @@ use Rattle.box_client.specs.States.{ClientState}
 use Rattle.box_world.specs.Streams.{begun}
 use Rattle.wire_profile.specs.Indexes.{ProfileView}
 use Rattle.wire_profile.specs.Profiles.{IsProfile}
-use Rattle.outside.specs.Events.{Event, Outside, opened, took, ended, read_failed, created, put, write_failed, listened, connected, accepted, told}
-use Rattle.outside.specs.Laws.{Happened, IsFailure, Throughout}
+use Rattle.outside.specs.Events.{Event, Outside, ended, put, write_failed}
 use Rattle.outside.specs.Packets.{PacketView, whole, TakesPacket}
 use Rattle.outside.specs.Packets as packets
 use Rattle.outside.specs.Pieces.{InPieces}
 use Rattle.outside.specs.Steps.{Turn, again, leave, Ends, Reaches, here, turn}
 use Rattle.outside.proofs.TakenPackets.{broken_packet, keeps_packet, whole_packet}
-use Rattle.outside.specs.Fits.{Fits, Happens}
+use Rattle.outside.specs.Fits.{Fits}
 use Rattle.outside.specs.Reliable.{IsReliable}
 use Rattle.outside.proofs.Fitting.{fits_both, fits_keeps, reliable_on, writes_append, writes_fail_full}
 use Rattle.outside.proofs.Sparing.{writes_leave}
@@ -37,6 +35,7 @@ use Rattle.session_rooms.specs.Conversing.{Outcome, Asks, after_asking, HearsByt
 use Rattle.session_rooms.specs.Sending.{PartlySent, Sends}
 use Rattle.session_rooms.proofs.ConversedBytes.{given_by, sent_by, taking_sent}
 use Rattle.session_rooms.proofs.LeftPackets.{packet_left}
+use Rattle.session_rooms.proofs.PostUnfailing.{IsTaken as IsTaking, taken_never}
 use Rattle.run_laws.proofs.links.SentLess.{Session, first_less, later_less}
 
 -- the link failed, or memory ran out
@@ -53,39 +52,6 @@ same_fault fault other is = cc
 
 lost_as : (fault other : SessionFault) → ◌≡◌ {A = Outcome} (Err fault) (Err other) → IsLost fault → IsLost other
 lost_as fault other is lost = subst IsLost (same_fault fault other is) lost
-
--- ---- what is taken
-
-abbrev IsTaking : Event → Type 0
-IsTaking (opened slot name ok) = ⊥
-IsTaking (took slot bytes) = Unit {0}
-IsTaking (ended slot) = Unit {0}
-IsTaking (read_failed slot) = Unit {0}
-IsTaking (created out name ok) = ⊥
-IsTaking (put out bytes) = ⊥
-IsTaking (write_failed out) = ⊥
-IsTaking (listened address ok) = ⊥
-IsTaking (connected address ok) = ⊥
-IsTaking (accepted ok) = ⊥
-IsTaking (told moment) = ⊥
-
-taken_fails : (k : Kind) (e : Event) (s n : Outside) → Happens e s n → IsReliable s → IsTaking e → IsFailure k e → ⊥
-taken_fails k (opened slot name ok) s n h r is fails = is
-taken_fails k (took slot bytes) s n h r is fails = let not : None ≡ Some k = fails in cc
-taken_fails k (ended slot) s n h r is fails = let not : None ≡ Some k = fails in cc
-taken_fails k (read_failed slot) s n h r is fails = absurd (omega (arith, h.1.1, r))
-taken_fails k (created out name ok) s n h r is fails = is
-taken_fails k (put out bytes) s n h r is fails = is
-taken_fails k (write_failed out) s n h r is fails = is
-taken_fails k (listened address ok) s n h r is fails = is
-taken_fails k (connected address ok) s n h r is fails = is
-taken_fails k (accepted ok) s n h r is fails = is
-taken_fails k (told moment) s n h r is fails = is
-
-taken_never : (k : Kind) (t : List Event) (s n : Outside) → Fits t s n → IsReliable s → Throughout IsTaking t → Happened (IsFailure k) t → ⊥
-taken_never k [] s n f r are fails = fails
-taken_never k (e ∷ t) s n f r are (inl first) = taken_fails k e s f.0 f.1 r are.0 first
-taken_never k (e ∷ t) s n f r are (inr later) = taken_never k t f.0 n f.2 (reliable_on s f.0 (fits_keeps (e ∷ []) s f.0 (f.0, f.1, refl)) r) are.1 later
 
 -- ---- what is sent
 

@@ -43,24 +43,12 @@ use Rattle.serve_rooms.specs.Doing.{Hosted}
 use Rattle.serve_rooms.proofs.Acting.{events_more}
 use Rattle.serve_rooms.proofs.AnsweredBytes.{fits_hosted, fits_none, fits_parts}
 use Rattle.run_laws.proofs.serving.WholeSessions.{sends_more}
+use Rattle.session_rooms.proofs.PostUnfailing.{IsTaken}
 
 pub none_sent : (before : List ℕ) (links : List (List ℕ)) → last_or before (links ++ [] ∷ []) ≡ []
 none_sent before links = get_or_at links [] [] before (length (links ++ [] ∷ []) - 1) (omega (arith, length-append links ([] ∷ [])))
 
 -- ---- a reliable outside doesn't fail where a packet is taken
-
-abbrev IsTaken : Event → Type 0
-IsTaken (opened slot name ok) = ⊥
-IsTaken (took slot bytes) = Unit {0}
-IsTaken (ended slot) = Unit {0}
-IsTaken (read_failed slot) = Unit {0}
-IsTaken (created out name ok) = ⊥
-IsTaken (put out bytes) = ⊥
-IsTaken (write_failed out) = ⊥
-IsTaken (listened address ok) = ⊥
-IsTaken (connected address ok) = ⊥
-IsTaken (accepted ok) = ⊥
-IsTaken (told moment) = ⊥
 
 taken_fails : (e : Event) (s n : Outside) → Happens e s n → IsReliable s → IsTaken e → IsFailure kinds.Links e → ⊥
 taken_fails (opened slot name ok) s n h r is failing = is
