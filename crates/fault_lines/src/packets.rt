@@ -4,7 +4,7 @@ ghost use Rattle.fault_lines.specs.Packets.{TellsPacket, ended_line, length_line
 
 use outside::{Stop, unplaced_line};
 use std::alloc::{AllocError, Global};
-use tl_base::PacketFault;
+use update_sessions::PacketCause;
 
 // The line of a length that no packet has.
 fn length_line(alloc: Global, length: u32) -> Result<Vec<u8>, AllocError>
@@ -22,14 +22,12 @@ fn ended_line(alloc: Global, had: u32) -> Result<Vec<u8>, AllocError>
     unplaced_line(alloc, "peer", why.as_str())
 }
 
-/// The stop of a job whose link gives no packet: the other end's fault, or the link's.
-pub fn packet_stop(alloc: Global, fault: PacketFault) -> Stop
+/// The stop of a job whose link gives no packet, which is the other end's fault.
+pub fn packet_stop(alloc: Global, fault: PacketCause) -> Stop
     ensures { TellsPacket fault result }
 {
     match fault {
-        PacketFault::BadLength { length } => Stop::of_peer(length_line(alloc, length)),
-        PacketFault::Ended { had } => Stop::of_peer(ended_line(alloc, had)),
-        PacketFault::ReadFault => Stop::LinkFault,
-        PacketFault::Memory => Stop::Memory,
+        PacketCause::BadLength { length } => Stop::of_peer(length_line(alloc, length)),
+        PacketCause::Ended { had } => Stop::of_peer(ended_line(alloc, had)),
     }
 }

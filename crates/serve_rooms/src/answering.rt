@@ -15,8 +15,8 @@ ghost use Rattle.serve_rooms.specs.inner.Ends.{answered_by, outcome_at, end_at, 
 use box_server::{KeepFault, Keeper, Stored};
 use outside::{Host, Packet, take_packet, write_out};
 use std::alloc::Global;
-use tl_base::{Bytes, Failed, Out, PacketFault, Slot};
-use update_sessions::{MAX_FRAMES, SessionFault, StoreSession, answer_packet};
+use tl_base::{Bytes, Failed, Out, Slot};
+use update_sessions::{MAX_FRAMES, PacketCause, SessionFault, StoreSession, answer_packet};
 use wire_profile::Profile;
 
 /// What became of the next packet.
@@ -38,10 +38,10 @@ fn no_packet(packet: &Packet) -> Outcome
         Packet::Whole(_) => Outcome::Answered,
         Packet::None => Outcome::Ended,
         Packet::BadLength { length } => Outcome::Failed {
-            fault: SessionFault::Packet(PacketFault::BadLength { length: *length }),
+            fault: SessionFault::Packet(PacketCause::BadLength { length: *length }),
         },
         Packet::Ended { had } => Outcome::Failed {
-            fault: SessionFault::Packet(PacketFault::Ended { had: *had }),
+            fault: SessionFault::Packet(PacketCause::Ended { had: *had }),
         },
         Packet::Broken => Outcome::Failed {
             fault: SessionFault::LinkFault,

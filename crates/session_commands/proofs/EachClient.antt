@@ -7,7 +7,7 @@ use Rattle.tl_numbers.specs.Bytes.{AreBytes}
 use Rattle.tl_base.specs.Outside.{IsFile}
 use Rattle.tl_base.specs.Contents.{Files, HoldBytes}
 use Rattle.tl_base.specs.Packets.{packet}
-use Rattle.tl_base.specs.declared.packet.PacketFault.{PacketFault}
+use Rattle.update_sessions.specs.declared.fault.PacketCause.{PacketCause}
 use Rattle.tl_types.proofs.Numbers.{begins_word}
 use Rattle.box_events.specs.declared.replies.Frame.{Frame}
 use Rattle.box_events.specs.declared.requests.Numbered.{Numbered}
@@ -100,7 +100,7 @@ module _ (p : ProfileView) (good : IsProfile p) where
   data HearEnd (left : List ℕ) (d : ClientState) (n k : ℕ) : Type 0 where
     ended : is_one_asking d ≡ false → k ≤ n → HearEnd left d n k
     full : is_one_asking d ≡ true → k ≡ n → HearEnd left d n k
-    none : is_one_asking d ≡ true → k < n → (f : PacketFault) (line : List ℕ) → NoFrame left f → IsWordLong f → packet_line f ≡ Some line → HearEnd left d n k
+    none : is_one_asking d ≡ true → k < n → (f : PacketCause) (line : List ℕ) → NoFrame left f → IsWordLong f → packet_line f ≡ line → HearEnd left d n k
     no_message : is_one_asking d ≡ true → k < n → (f : WireFault) → RefusedPacket (WireRefused p frames) left f → HearEnd left d n k
     no_answer : is_one_asking d ≡ true → k < n → (f : Frame) (e : ClientFault) → RefusedFrame p d left f e → HearEnd left d n k
 
@@ -219,7 +219,7 @@ module _ (p : ProfileView) (good : IsProfile p) where
     by_end : HearEnd g.left g.client_after MAX_FRAMES (length g.taken_frames) → (a : Answer) × OfSession p address name c given a
     by_end (ended is le) = saves (length g.taken_frames) (of_hears (Ok (length g.taken_frames)) [] (g.left, g.exchanged, is, refl, le, refl))
     by_end (full asks is) = fails fault.TooManyFrames _ (of_hears (Err fault.TooManyFrames) [] (g.left, g.exchanged, asks, is, refl)) tt refl
-    by_end (none asks less f line h short tells) = fails (fault.Packet f) line (of_hears (Err (fault.Packet f)) [] (g.left, still asks less, h, refl)) short tells
+    by_end (none asks less f line h short tells) = fails (fault.Packet f) line (of_hears (Err (fault.Packet f)) [] (g.left, still asks less, h, refl)) short (ap Some tells)
     by_end (no_message asks less f h) = fails (fault.Wire f) _ (of_hears (Err (fault.Wire f)) [] (g.left, still asks less, h, refl)) tt refl
     by_end (no_answer asks less f e h) = fails (fault.Client e) _ (of_hears (Err (fault.Client e)) (f ∷ []) (g.left, f, still asks less, h, refl)) tt refl
 

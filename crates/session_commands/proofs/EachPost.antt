@@ -12,8 +12,8 @@ use Rattle.tl_base.specs.Outside.{IsFile}
 use Rattle.tl_base.specs.Contents.{Files, HoldBytes}
 use Rattle.tl_numbers.specs.Numbers.{word}
 use Rattle.tl_base.specs.Packets.{IsPacketLength, packet}
-use Rattle.tl_base.specs.declared.packet.PacketFault.{PacketFault}
-use Rattle.tl_base.specs.declared.packet.PacketFault.TheVariants as packets
+use Rattle.update_sessions.specs.declared.fault.PacketCause.{PacketCause}
+use Rattle.update_sessions.specs.declared.fault.PacketCause.TheVariants as packets
 use Rattle.tl_schema.specs.Types.{call}
 use Rattle.tl_schema.specs.Formed.{IsFormed}
 use Rattle.tl_types.specs.Values.{ValueView, depth}
@@ -74,11 +74,11 @@ pub record BeginsPacket (bytes : List ℕ) : Type 0 where
 
 -- no packet comes, which has a line
 pub record BeginsNone (bytes : List ℕ) : Type 0 where
-  pub fault : PacketFault
+  pub fault : PacketCause
   pub line : List ℕ
   pub none : NoFrame bytes fault
   pub few : IsWordLong fault
-  pub tells : packet_line fault ≡ Some line
+  pub tells : packet_line fault ≡ line
 
 cut_short : (bytes : List ℕ) → length bytes < 4 → BeginsNone bytes
 cut_short [] less = record { fault = packets.Ended 0; line = _; none = inl (refl, refl); few = tt; tells = refl }

@@ -1,11 +1,11 @@
 -- Each `serve` whose schema is there has an answer.
-use Rattle.std.proofs.Common.{◌≡◌, ℕ, zero, suc, ℤ, ◌<◌, ◌^◌, List, [], ◌∷◌, ◌++◌, length, get_or, Option, Some, None, option_map, Ok, Err, refl, ap, subst, codes, inl, inr, arith}
+use Rattle.std.proofs.Common.{◌≡◌, ℕ, zero, suc, ℤ, ◌<◌, ◌^◌, List, [], ◌∷◌, ◌++◌, length, get_or, Option, Some, None, Ok, Err, refl, ap, subst, codes, inl, inr, arith}
 use Rattle.std.specs.Prelude.{⊤}
 use Rattle.std.specs.FinMap as map
 use Rattle.std.specs.List.{All, AllByRecursion}
 use Rattle.tl_numbers.specs.Bytes.{AreBytes, ListsOfBytes}
 use Rattle.tl_base.specs.Packets.{packet}
-use Rattle.tl_base.specs.declared.packet.PacketFault.{PacketFault}
+use Rattle.update_sessions.specs.declared.fault.PacketCause.{PacketCause}
 use Rattle.tl_types.proofs.Numbers.{begins_word}
 use Rattle.box_events.specs.declared.positions.Receipt.{Receipt}
 use Rattle.box_events.specs.declared.replies.Frame.{Frame}
@@ -122,7 +122,7 @@ module _ (p : ProfileView) (good : IsProfile p) where
   data RowEnd (left : List ℕ) (n k : ℕ) : Type 0 where
     full : k ≡ n → RowEnd left n k
     empty : k < n → left ≡ [] → RowEnd left n k
-    none : k < n → (f : PacketFault) (line : List ℕ) → NoPacket left f → IsWordLong f → packet_line f ≡ Some line → RowEnd left n k
+    none : k < n → (f : PacketCause) (line : List ℕ) → NoPacket left f → IsWordLong f → packet_line f ≡ line → RowEnd left n k
     refused : k < n → (f : WireFault) → RefusedPacket (WireRefused p calls) left f → RowEnd left n k
 
   record Row (n : ℕ) (bytes : List ℕ) : Type 0 where
@@ -138,7 +138,7 @@ module _ (p : ProfileView) (good : IsProfile p) where
   one_on left n k (none less f line h few tells) = none (omega (arith, less)) f line h few tells
   one_on left n k (refused less f h) = refused (omega (arith, less)) f h
 
-  none_row : (n : ℕ) (bytes : List ℕ) (f : PacketFault) (line : List ℕ) → NoFrame bytes f → IsWordLong f → packet_line f ≡ Some line → Row (suc n) bytes
+  none_row : (n : ℕ) (bytes : List ℕ) (f : PacketCause) (line : List ℕ) → NoFrame bytes f → IsWordLong f → packet_line f ≡ line → Row (suc n) bytes
   none_row n bytes f line (inl (is, at)) few tells = record { came_calls = []; left = bytes; came = refl; fit = tt; ends = empty (omega arith) is }
   none_row n bytes f line (inr h) few tells = record { came_calls = []; left = bytes; came = refl; fit = tt; ends = none (omega arith) f line h few tells }
 
@@ -211,7 +211,7 @@ module _ (p : ProfileView) (good : IsProfile p) where
           server = t;
           more = kept_in d row.came_calls;
           ended = peer_fault line;
-          session = record { answer = Err (fault.Packet f); calls = row.came_calls; serves = (row.left, ex, less, lacks); entries = refl; word = word; ended = ap (option_map (λ l. peer_fault l)) tells };
+          session = record { answer = Err (fault.Packet f); calls = row.came_calls; serves = (row.left, ex, less, lacks); entries = refl; word = word; ended = ap (λ (l : List ℕ). Some (peer_fault l)) tells };
           whole = tt;
           stays = stays;
         }

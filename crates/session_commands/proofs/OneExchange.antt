@@ -41,17 +41,17 @@ one_packed Spells one (n ∷ ns) x y (b, r, s, is, p) (d, q, t, at, k) =
 module _ {S M N : Type 0} (side : Side S M N) where
   -- ---- the first message
 
-  record FirstStep (s : S) (bytes left out : List ℕ) (t : S) (m : M) (ms : List M) : Type 0 where
-    rest : List ℕ
-    comes : ComesFirst side.means m bytes rest
-    takes : side.takes s m
-    first : List ℕ
-    others : List ℕ
-    wrote : Packed side.spells (side.sends s m) first
-    parts : out ≡ first ++ others
-    then_on : Exchanged side (side.next s m) rest left others t ms
+  pub record FirstStep (s : S) (bytes left out : List ℕ) (t : S) (m : M) (ms : List M) : Type 0 where
+    pub rest : List ℕ
+    pub comes : ComesFirst side.means m bytes rest
+    pub takes : side.takes s m
+    pub first : List ℕ
+    pub others : List ℕ
+    pub wrote : Packed side.spells (side.sends s m) first
+    pub parts : out ≡ first ++ others
+    pub then_on : Exchanged side (side.next s m) rest left others t ms
 
-  first_of : (s : S) (bytes left out : List ℕ) (t : S) (m : M) (ms : List M) → Exchanged side s bytes left out t (m ∷ ms) → FirstStep s bytes left out t m ms
+  pub first_of : (s : S) (bytes left out : List ℕ) (t : S) (m : M) (ms : List M) → Exchanged side s bytes left out t (m ∷ ms) → FirstStep s bytes left out t m ms
   first_of s bytes left out t m ms e =
       let split = packed_parts side.spells (side.sends s m) (sends_all side (side.next s m) ms) out e.wrote in
       record {

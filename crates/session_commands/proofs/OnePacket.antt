@@ -2,8 +2,8 @@
 use Rattle.std.proofs.Common.{◌≡◌, ℕ, ◌<◌, ◌≤◌, ◌^◌, List, [], ◌∷◌, ◌++◌, append_assoc, length, length-append, get_or, drop, refl, sym, ap, ap₂, ◌∙◌, subst, arith, inl, inr}
 use Rattle.tl_numbers.specs.Numbers.{word, word_number}
 use Rattle.tl_base.specs.Packets.{IsPacketLength, packet, IsCutShort}
-use Rattle.tl_base.specs.declared.packet.PacketFault.{PacketFault}
-use Rattle.tl_base.specs.declared.packet.PacketFault.TheVariants as fault
+use Rattle.update_sessions.specs.declared.fault.PacketCause.{PacketCause}
+use Rattle.update_sessions.specs.declared.fault.PacketCause.TheVariants as fault
 use Rattle.tl_numbers.proofs.Spelled.{words}
 use Rattle.update_sessions.specs.Heard.{NoFrame}
 use Rattle.update_sessions.specs.Packed.{NoPacket}
@@ -42,7 +42,7 @@ pub packet_is_long : (bytes body rest : List ℕ) → bytes ≡ packet body ++ r
 packet_is_long bytes body rest e = word_is_long bytes (body ++ rest) (length body) (e ∙ begins_so body rest)
 
 -- bytes that begin with a packet don't begin with none
-pub never_packet : (bytes body rest : List ℕ) (e : PacketFault) → NoFrame bytes e → IsWordLong e → IsPacketLength (length body) → bytes ≡ packet body ++ rest → ⊥
+pub never_packet : (bytes body rest : List ℕ) (e : PacketCause) → NoFrame bytes e → IsWordLong e → IsPacketLength (length body) → bytes ≡ packet body ++ rest → ⊥
 never_packet bytes body rest e (inl (none, at)) few fits is = omega (arith, ap length none, packet_is_long bytes body rest is)
 never_packet bytes body rest (fault.BadLength n) (inr (r, begins, bad)) few fits is =
     let same = same_word n (length body) r (body ++ rest) few (is_few _ fits) (sym begins ∙ is ∙ begins_so body rest) in
@@ -51,8 +51,6 @@ never_packet bytes body rest (fault.Ended had) (inr (len, some, inl short)) few 
 never_packet bytes body rest (fault.Ended had) (inr (len, some, inr (n, r, good, begins, less))) few fits is =
     let same = same_word n (length body) r (body ++ rest) (is_few _ good) (is_few _ fits) (sym begins ∙ is ∙ begins_so body rest) in
     omega (arith, less, same.0, ap length same.1, length-append body rest)
-never_packet bytes body rest fault.ReadFault (inr none) few fits is = none
-never_packet bytes body rest fault.Memory (inr none) few fits is = none
 
 -- a length that no packet has is not cut short
 never_cut : (bytes r : List ℕ) (n : ℕ) → n < 2 ^ 32 → bytes ≡ word n ++ r → ¬ IsPacketLength n → IsCutShort bytes → ⊥
@@ -61,24 +59,18 @@ never_cut bytes r n few begins bad (inr (m, s, good, also, less)) =
     let same = same_word n m r s few (is_few _ good) (sym begins ∙ also) in
     bad (subst IsPacketLength (sym same.0) good)
 
-never_none : (bytes : List ℕ) (e : PacketFault) → bytes ≡ [] → IsWordLong e → NoFrame bytes e → e ≡ fault.Ended 0
+never_none : (bytes : List ℕ) (e : PacketCause) → bytes ≡ [] → IsWordLong e → NoFrame bytes e → e ≡ fault.Ended 0
 never_none bytes e none few (inl (also, at)) = at
 never_none bytes (fault.BadLength n) none few (inr (r, begins, bad)) = absurd (omega (arith, ap length none, word_is_long bytes r n begins))
 never_none bytes (fault.Ended had) none few (inr (len, some, cut)) = absurd (omega (arith, ap length none, len, some))
-never_none bytes fault.ReadFault none few (inr never) = absurd never
-never_none bytes fault.Memory none few (inr never) = absurd never
 
-one_none : (bytes : List ℕ) (e f : PacketFault) → NoPacket bytes e → NoPacket bytes f → IsWordLong e → IsWordLong f → e ≡ f
+one_none : (bytes : List ℕ) (e f : PacketCause) → NoPacket bytes e → NoPacket bytes f → IsWordLong e → IsWordLong f → e ≡ f
 one_none bytes (fault.BadLength m) (fault.BadLength n) (r, begins, bad) (s, starts, worse) few also = ap (λ (k : ℕ). fault.BadLength k) (same_word m n r s few also (sym begins ∙ starts)).0
 one_none bytes (fault.BadLength m) (fault.Ended had) (r, begins, bad) (len, some, cut) few also = absurd (never_cut bytes r m few begins bad cut)
 one_none bytes (fault.Ended had) (fault.BadLength n) (len, some, cut) (r, begins, bad) few also = absurd (never_cut bytes r n also begins bad cut)
 one_none bytes (fault.Ended m) (fault.Ended n) (len, some, cut) (long, more, short) few also = ap (λ (k : ℕ). fault.Ended k) (sym len ∙ long)
-one_none bytes fault.ReadFault f never h few also = absurd never
-one_none bytes fault.Memory f never h few also = absurd never
-one_none bytes e fault.ReadFault h never few also = absurd never
-one_none bytes e fault.Memory h never few also = absurd never
 
-pub one_packet_fault : (bytes : List ℕ) (e f : PacketFault) → NoFrame bytes e → NoFrame bytes f → IsWordLong e → IsWordLong f → e ≡ f
+pub one_packet_fault : (bytes : List ℕ) (e f : PacketCause) → NoFrame bytes e → NoFrame bytes f → IsWordLong e → IsWordLong f → e ≡ f
 one_packet_fault bytes e f (inl (none, at)) h few also = at ∙ sym (never_none bytes f none also h)
 one_packet_fault bytes e f (inr h) (inl (none, at)) few also = never_none bytes e none few (inr h) ∙ sym at
 one_packet_fault bytes e f (inr h) (inr k) few also = one_none bytes e f h k few also

@@ -1,5 +1,5 @@
 -- What comes of a call is one.
-use Rattle.std.proofs.Common.{◌≡◌, ℕ, zero, suc, List, [], ◌∷◌, ◌++◌, append-nil, append_assoc, length, Option, Some, sym, ap, ◌∙◌, subst, codes, arith}
+use Rattle.std.proofs.Common.{◌≡◌, ℕ, zero, suc, List, [], ◌∷◌, ◌++◌, append-nil, append_assoc, length, Some, sym, ap, ◌∙◌, subst, codes, arith}
 use Rattle.tl_numbers.specs.Bytes.{AreBytes}
 use Rattle.tl_numbers.specs.Numbers.{word}
 use Rattle.tl_base.specs.Packets.{packet}
@@ -36,9 +36,6 @@ body_bytes bytes body rest is are = bytes_first body rest (bytes_after bytes (wo
 some_is : {A : Type 0} (x y : A) → Some x ≡ Some y → x ≡ y
 some_is x y e = cc
 
-same_line : {F : Type 0} (f : F → Option (List ℕ)) (d e : F) (k l : List ℕ) → d ≡ e → f d ≡ Some k → f e ≡ Some l → k ≡ l
-same_line f d e k l same is at = some_is k l (sym is ∙ ap f same ∙ at)
-
 module _ (p : ProfileView) (good : IsProfile p) (n : ℕ) where
   module _ (body : List ℕ) (are : AreBytes body) where
     one_frame : (f g : Frame) → MeansFrame p f body → MeansFrame p g body → f ≡ g
@@ -67,7 +64,7 @@ module _ (p : ProfileView) (good : IsProfile p) (n : ℕ) where
 
   module _ (bytes : List ℕ) (are : AreBytes bytes) where
     pub one_link : (o q : Outcome) → OfLink p n bytes o → OfLink p n bytes q → o ≡ q
-    one_link o q (no_packet d k r few tells is) (no_packet e l s less says at) = is ∙ ap peer (same_line packet_line d e k l (one_packet_fault bytes d e r s few less) tells says) ∙ sym at
+    one_link o q (no_packet d k r few tells is) (no_packet e l s less says at) = is ∙ ap peer (sym tells ∙ ap packet_line (one_packet_fault bytes d e r s few less) ∙ says) ∙ sym at
     one_link o q (no_packet d k r few tells is) (packet_of body rest fits parts h) = absurd (never_packet bytes body rest d r few fits parts)
     one_link o q (packet_of body rest fits parts h) (no_packet e l s less says at) = absurd (never_packet bytes body rest e s less fits parts)
     one_link o q (packet_of body rest fits parts h) (packet_of other more also split k) =

@@ -2,8 +2,8 @@
 use Rattle.std.proofs.Common.{◌≡◌, ℕ, ◌<◌, ◌≤◌, List, [], ◌∷◌, ◌++◌, length, Some, None, Result, Ok, Err, refl, sym, ap, ◌∙◌, subst, arith, inl, inr}
 use Rattle.tl_numbers.specs.Bytes.{AreBytes}
 use Rattle.tl_base.specs.Packets.{IsPacketLength, packet}
-use Rattle.tl_base.specs.declared.packet.PacketFault.{PacketFault}
-use Rattle.tl_base.specs.declared.packet.PacketFault.TheVariants as packets
+use Rattle.update_sessions.specs.declared.fault.PacketCause.{PacketCause}
+use Rattle.update_sessions.specs.declared.fault.PacketCause.TheVariants as packets
 use Rattle.tl_encode.proofs.OneSpelling.{one_spelling}
 use Rattle.box_events.specs.declared.replies.Frame.{Frame}
 use Rattle.box_events.specs.declared.requests.Numbered.{Numbered}
@@ -40,13 +40,13 @@ some_is : (d e : SessionEnd) → Some d ≡ Some e → d ≡ e
 some_is d e is = cc
 
 module _ (p : ProfileView) (good : IsProfile p) where
-  one_of : (b : List ℕ) → AreBytes b → (m n : Numbered) → MeansCall p m b → MeansCall p n b → m ≡ n
+  pub one_of : (b : List ℕ) → AreBytes b → (m n : Numbered) → MeansCall p m b → MeansCall p n b → m ≡ n
   one_of b are m n means says = one_call p good b are m n means says
 
-  one_frame : (f : Frame) (x y : List ℕ) → SpellsFrame p f x → SpellsFrame p f y → x ≡ y
+  pub one_frame : (f : Frame) (x y : List ℕ) → SpellsFrame p f x → SpellsFrame p f y → x ≡ y
   one_frame f x y s r = one_spelling p.schema (placed p (frame_tree f)) (cell_shape p frames.cell) x y s r
 
-  came_bytes : (bytes : List ℕ) (cs : List Numbered) (left : List ℕ) → Came (MeansCall p) bytes cs left → AreBytes bytes → AreBytes left
+  pub came_bytes : (bytes : List ℕ) (cs : List Numbered) (left : List ℕ) → Came (MeansCall p) bytes cs left → AreBytes bytes → AreBytes left
   came_bytes bytes [] left is are = subst AreBytes is are
   came_bytes bytes (m ∷ cs) left (b, rest, fits, parts, means, c) are = came_bytes rest cs left c (rest_bytes bytes b rest parts are)
 
@@ -79,9 +79,9 @@ module _ (p : ProfileView) (good : IsProfile p) where
   never_more left are n (Err fault.LinkFault) ends few m b rest fits parts means = ends
   never_more left are n (Err fault.Memory) ends few m b rest fits parts means = ends
 
-  record Closed (s : ServerState) (bytes out : List ℕ) (t : ServerState) (r : Result ℕ SessionFault) (cs : List Numbered) : Type 0 where
-    left : List ℕ
-    ended : Ended (server_side p) s bytes left out t cs
+  pub record Closed (s : ServerState) (bytes out : List ℕ) (t : ServerState) (r : Result ℕ SessionFault) (cs : List Numbered) : Type 0 where
+    pub left : List ℕ
+    pub ended : Ended (server_side p) s bytes left out t cs
     ends : EndsWith left (length cs) r
 
   closed_by : (s : ServerState) (bytes : List ℕ) → AreBytes bytes → (out : List ℕ) (t : ServerState) (r : Result ℕ SessionFault) (cs : List Numbered) (left : List ℕ) → Exchanged (server_side p) s bytes left out t cs → length cs ≤ MAX_FRAMES
@@ -96,7 +96,7 @@ module _ (p : ProfileView) (good : IsProfile p) where
     ends = ends;
   }
 
-  closed : (s : ServerState) (bytes : List ℕ) → AreBytes bytes → (out : List ℕ) (t : ServerState) (r : Result ℕ SessionFault) (cs : List Numbered) (e : SessionEnd) → Serves p s bytes out t r cs → IsShortEnd r → end_of r ≡ Some e → IsWhole e → Closed s bytes out t r cs
+  pub closed : (s : ServerState) (bytes : List ℕ) → AreBytes bytes → (out : List ℕ) (t : ServerState) (r : Result ℕ SessionFault) (cs : List Numbered) (e : SessionEnd) → Serves p s bytes out t r cs → IsShortEnd r → end_of r ≡ Some e → IsWhole e → Closed s bytes out t r cs
   unfolding EndsWith
   closed s bytes are out t (Ok n) cs e (ex, is, few) word at whole = closed_by s bytes are out t (Ok n) cs [] ex (omega (arith, is, few)) (refl, is, omega (arith, is, few))
   closed s bytes are out t (Err (fault.Packet f)) cs e (left, ex, few, none) word at whole = closed_by s bytes are out t (Err (fault.Packet f)) cs left ex (omega (arith, few)) (none, word, few)
@@ -108,7 +108,7 @@ module _ (p : ProfileView) (good : IsProfile p) where
 
   -- ---- what is left tells how a session ends
 
-  ends_empty : (left : List ℕ) (f : PacketFault) → left ≡ [] → NoPacket left f → IsWordLong f → ⊥
+  ends_empty : (left : List ℕ) (f : PacketCause) → left ≡ [] → NoPacket left f → IsWordLong f → ⊥
   ends_empty left f none lacks word =
       let at : packets.Ended 0 ≡ f = one_packet_fault left (packets.Ended 0) f (inl (none, refl)) (inr lacks) tt word in
       let h : NoPacket left (packets.Ended 0) = subst (NoPacket left) (sym at) lacks in
@@ -124,7 +124,7 @@ module _ (p : ProfileView) (good : IsProfile p) where
   one_result left are n (Ok j) (Err fault.LinkFault) h g = absurd g
   one_result left are n (Ok j) (Err fault.Memory) h g = absurd g
   one_result left are n (Err (fault.Packet e)) (Ok k) h g = absurd (ends_empty left e g.0 h.0 h.1)
-  one_result left are n (Err (fault.Packet e)) (Err (fault.Packet f)) h g = ap (λ (z : PacketFault). Err (fault.Packet z)) (one_packet_fault left e f (inr h.0) (inr g.0) h.1 g.1)
+  one_result left are n (Err (fault.Packet e)) (Err (fault.Packet f)) h g = ap (λ (z : PacketCause). Err (fault.Packet z)) (one_packet_fault left e f (inr h.0) (inr g.0) h.1 g.1)
   one_result left are n (Err (fault.Packet e)) (Err (fault.Wire f)) h g = absurd (never_packet left g.0.body g.0.rest e (inr h.0) h.1 g.0.fits g.0.parts)
   one_result left are n (Err (fault.Packet e)) (Err fault.TooManyFrames) h g = absurd (omega (arith, h.2, g))
   one_result left are n (Err (fault.Packet e)) (Err (fault.Client f)) h g = absurd g

@@ -1,7 +1,7 @@
 -- What a client's session does over bytes is one, and no other may ask for more.
 use Rattle.std.proofs.Common.{◌≡◌, inl, inr, ℕ, ◌<◌, ◌≤◌, List, [], ◌∷◌, ◌++◌, length, true, false, true≢false, Some, None, Result, Ok, Err, refl, sym, ap, ap₂, ◌∙◌, subst, arith}
 use Rattle.tl_numbers.specs.Bytes.{AreBytes}
-use Rattle.tl_base.specs.declared.packet.PacketFault.{PacketFault}
+use Rattle.update_sessions.specs.declared.fault.PacketCause.{PacketCause}
 use Rattle.tl_encode.proofs.OneSpelling.{one_spelling}
 use Rattle.box_events.specs.declared.replies.Frame.{Frame}
 use Rattle.box_events.specs.declared.requests.Numbered.{Numbered}
@@ -179,10 +179,10 @@ module _ (p : ProfileView) (good : IsProfile p) where
   wire_client : (left : List ℕ) (c : ClientState) (f : Frame) (d : WireFault) (e : ClientFault) → AreBytes left → RefusedPacket (WireRefused p frames) left d → RefusedFrame p c left f e → ⊥
   wire_client left c f d e are r s = wire_stops left s.rest f d are r s.comes
 
-  packet_wire : (left : List ℕ) (d : PacketFault) (e : WireFault) → NoFrame left d → IsWordLong d → RefusedPacket (WireRefused p frames) left e → ⊥
+  packet_wire : (left : List ℕ) (d : PacketCause) (e : WireFault) → NoFrame left d → IsWordLong d → RefusedPacket (WireRefused p frames) left e → ⊥
   packet_wire left d e none word r = never_packet left r.body r.rest d none word r.fits r.parts
 
-  packet_client : (left : List ℕ) (c : ClientState) (f : Frame) (d : PacketFault) (e : ClientFault) → NoFrame left d → IsWordLong d → RefusedFrame p c left f e → ⊥
+  packet_client : (left : List ℕ) (c : ClientState) (f : Frame) (d : PacketCause) (e : ClientFault) → NoFrame left d → IsWordLong d → RefusedFrame p c left f e → ⊥
   packet_client left c f d e none word r = never_packet left r.comes.body r.rest d none word r.comes.fits r.comes.parts
 
   not_most : (k : ℕ) → k < MAX_FRAMES → k ≡ MAX_FRAMES → ⊥
@@ -195,7 +195,7 @@ module _ (p : ProfileView) (good : IsProfile p) where
   one_end left d k (Ok m) (Err (Client f)) are h g = absurd (not_asking d h.0 g.0)
   one_end left d k (Ok m) (Err TooManyFrames) are h g = absurd (not_asking d h.0 g.0)
   one_end left d k (Err (Packet f)) (Ok n) are h g = absurd (not_asking d g.0 h.0)
-  one_end left d k (Err (Packet f)) (Err (Packet e)) are h g = ap (λ (x : PacketFault). Err (Packet x)) (one_packet_fault left f e h.2 g.2 h.3 g.3)
+  one_end left d k (Err (Packet f)) (Err (Packet e)) are h g = ap (λ (x : PacketCause). Err (Packet x)) (one_packet_fault left f e h.2 g.2 h.3 g.3)
   one_end left d k (Err (Packet f)) (Err (Wire e)) are h g = absurd (packet_wire left f e h.2 h.3 g.2)
   one_end left d k (Err (Packet f)) (Err (Client e)) are h g = absurd (packet_client left d g.2 f e h.2 h.3 g.3)
   one_end left d k (Err (Packet f)) (Err TooManyFrames) are h g = absurd (not_most k h.1 g.1)

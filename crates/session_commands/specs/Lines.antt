@@ -1,16 +1,14 @@
 -- The lines of what the other end of a link sends. This project's own.
-use Rattle.std.specs.Prelude.{ℕ, List, ◌++◌, Option, Some, None, codes, decimal}
-use Rattle.tl_base.specs.declared.packet.PacketFault.{PacketFault}
-use Rattle.tl_base.specs.declared.packet.PacketFault.TheVariants as packet
+use Rattle.std.specs.Prelude.{ℕ, List, ◌++◌, codes, decimal}
+use Rattle.update_sessions.specs.declared.fault.PacketCause.{PacketCause}
+use Rattle.update_sessions.specs.declared.fault.PacketCause.TheVariants as packet
 use Rattle.outside.specs.Answer.{unplaced_line}
 use Rattle.fault_lines.specs.Packets.{length_line, ended_line}
 
--- of bytes that begin with no packet; a failed read and out of memory have none
-abbrev pub packet_line : PacketFault → Option (List ℕ)
-packet_line (packet.BadLength length) = Some (length_line length)
-packet_line (packet.Ended had) = Some (ended_line had)
-packet_line packet.ReadFault = None
-packet_line packet.Memory = None
+-- of bytes that begin with no packet
+abbrev pub packet_line : PacketCause → List ℕ
+packet_line (packet.BadLength length) = length_line length
+packet_line (packet.Ended had) = ended_line had
 
 -- of a frame that is no reply to the call that was sent
 abbrev pub wrong_reply_line : List ℕ

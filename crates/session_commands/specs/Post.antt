@@ -1,12 +1,12 @@
 -- What `post` answers: the reply to the call that the input's JSON is, or where and why schema, profile or input is refused, or what the other end of the
 -- link does wrong. This project's own.
-use Rattle.std.specs.Prelude.{◌≡◌, ℕ, ◌<◌, ◌≤◌, ◌^◌, List, [], ◌++◌, length, codes, Some}
+use Rattle.std.specs.Prelude.{◌≡◌, ℕ, ◌<◌, ◌≤◌, ◌^◌, List, [], ◌++◌, length, codes}
 use Rattle.tl_numbers.specs.Bytes.{AreBytes}
 use Rattle.tl_base.specs.Contents.{Files, HoldBytes}
 use Rattle.tl_base.specs.Outside.{View, HasFile, IsFile}
 use Rattle.tl_base.specs.Packets.{IsPacketLength, packet}
-use Rattle.tl_base.specs.declared.packet.PacketFault.{PacketFault}
-use Rattle.tl_base.specs.declared.packet.PacketFault.TheVariants as packet_fault
+use Rattle.update_sessions.specs.declared.fault.PacketCause.{PacketCause}
+use Rattle.update_sessions.specs.declared.fault.PacketCause.TheVariants as packet_fault
 use Rattle.tl_schema.specs.Types.{call}
 use Rattle.tl_types.specs.Values.{ValueView}
 use Rattle.tl_types.specs.Spelling.{Spells}
@@ -51,13 +51,13 @@ pub data OfBody (p : ProfileView) (n : ℕ) (body : List ℕ) (o : Outcome) : Ty
   reply : (f : Frame) (v : ValueView) → MeansFrame p f body → IsReplyTo n f → SpellsWhole p frames v body → o ≡ shows (line_text p.schema.decls (cell_shape p frames.cell) v) → OfBody p n body o
 
 -- a length that no packet has is one of four bytes
-abbrev pub IsWordLong : PacketFault → Type 0
+abbrev pub IsWordLong : PacketCause → Type 0
 IsWordLong (packet_fault.BadLength n) = n < 2 ^ 32
 IsWordLong fault = Unit {0}
 
 -- what is made of what the link gives: its first packet tells, where it begins with one
 pub data OfLink (p : ProfileView) (n : ℕ) (bytes : List ℕ) (o : Outcome) : Type 0 where
-  no_packet : (fault : PacketFault) (line : List ℕ) → NoFrame bytes fault → IsWordLong fault → packet_line fault ≡ Some line → o ≡ peer line → OfLink p n bytes o
+  no_packet : (fault : PacketCause) (line : List ℕ) → NoFrame bytes fault → IsWordLong fault → packet_line fault ≡ line → o ≡ peer line → OfLink p n bytes o
   packet_of : (body rest : List ℕ) → IsPacketLength (length body) → bytes ≡ packet body ++ rest → OfBody p n body o → OfLink p n bytes o
 
 -- ---- the call

@@ -15,7 +15,7 @@ many_frames_line = unplaced_line (codes "peer") (codes "TooManyFrames")
 
 -- of what the other end did wrong; a fault of the link and out of memory have none
 abbrev pub session_line : SessionFault → Option (List ℕ)
-session_line (session.Packet fault) = packet_line fault
+session_line (session.Packet fault) = Some (packet_line fault)
 session_line (session.Wire fault) = Some (wire_line (codes "peer") fault)
 session_line (session.Client fault) = Some (answer_line fault)
 session_line session.TooManyFrames = Some many_frames_line
@@ -42,7 +42,7 @@ PeerWith line stop.Memory = Unit {0}
 
 -- the stop of a session that fails
 abbrev pub TellsSession : SessionFault → Stop → Type 0
-TellsSession (session.Packet fault) s = PeerWith (packet_line fault) s
+TellsSession (session.Packet fault) s = PeerWith (Some (packet_line fault)) s
 TellsSession (session.Wire fault) s = PeerWith (Some (wire_line (codes "peer") fault)) s
 TellsSession (session.Client fault) s = PeerWith (Some (answer_line fault)) s
 TellsSession session.TooManyFrames s = PeerWith (Some many_frames_line) s

@@ -7,8 +7,7 @@ ghost use Rattle.outside.specs.Loading.{PeerAs};
 use fault_lines::{answer_line, packet_stop, wire_line};
 use outside::{Stop, unplaced_line};
 use std::alloc::Global;
-use tl_base::PacketFault;
-use update_sessions::SessionFault;
+use update_sessions::{PacketCause, SessionFault};
 
 /// The stop of a run whose session failed: the other end's fault, or the link's.
 pub fn session_stop(alloc: Global, fault: SessionFault) -> Stop
@@ -16,7 +15,7 @@ pub fn session_stop(alloc: Global, fault: SessionFault) -> Stop
     ensures word { IsShort fault }
 {
     match fault {
-        SessionFault::Packet(fault) => packet_failed(alloc, fault),
+        SessionFault::Packet(cause) => packet_failed(alloc, cause),
         SessionFault::Wire(fault) => Stop::of_peer(wire_line(alloc, "peer", fault)),
         SessionFault::Client(fault) => Stop::of_peer(answer_line(alloc, fault)),
         SessionFault::TooManyFrames => many_frames(alloc),
@@ -25,15 +24,14 @@ pub fn session_stop(alloc: Global, fault: SessionFault) -> Stop
     }
 }
 
-// The stop of a session whose next bytes are no packet. A session's fault is no failed read.
-fn packet_failed(alloc: Global, fault: PacketFault) -> Stop
-    ensures stop { PeerWith (packet_line fault) result }
-    ensures word { IsWordLong fault }
+// The stop of a session whose next bytes are no packet.
+fn packet_failed(alloc: Global, cause: PacketCause) -> Stop
+    ensures stop { PeerWith (Some (packet_line cause)) result }
+    ensures word { IsWordLong cause }
 {
-    match fault {
-        PacketFault::BadLength { length } => packet_stop(alloc, PacketFault::BadLength { length }),
-        PacketFault::Ended { had } => packet_stop(alloc, PacketFault::Ended { had }),
-        PacketFault::ReadFault | PacketFault::Memory => Stop::Memory,
+    match cause {
+        PacketCause::BadLength { length } => packet_stop(alloc, PacketCause::BadLength { length }),
+        PacketCause::Ended { had } => packet_stop(alloc, PacketCause::Ended { had }),
     }
 }
 

@@ -3,8 +3,8 @@ use Rattle.std.proofs.Common.{◌≡◌, inl, codes, ltb, ℕ, ◌+◌, ℤ, Lis
 use Rattle.tl_base.specs.declared.counts.Kind.TheVariants as kinds
 use Rattle.tl_base.specs.declared.host.Slot.TheVariants as slots
 use Rattle.tl_base.specs.declared.host.Out.TheVariants as outs
-use Rattle.tl_base.specs.declared.packet.PacketFault.{PacketFault}
-use Rattle.tl_base.specs.declared.packet.PacketFault.TheVariants.{BadLength, Ended}
+use Rattle.update_sessions.specs.declared.fault.PacketCause.{PacketCause}
+use Rattle.update_sessions.specs.declared.fault.PacketCause.TheVariants.{BadLength, Ended}
 use Rattle.box_events.specs.declared.requests.Numbered.{Numbered}
 use Rattle.box_client.specs.States.{ClientState}
 use Rattle.box_client.specs.Asking.{ticks, wakes, is_one_asking}
@@ -155,7 +155,7 @@ module _ (p : ProfileView) (fault : SessionFault) where
   bytes_ended c bytes t u came (heard f means taken h) = ended_last fault t u (ask_ended (hears c f) u h)
 
   -- what came is no packet
-  cut_ended : (f : PacketFault) (line : List ℕ) (m : PacketView) (t u : List Event) → session_line (session.Packet f) ≡ Some line → IsUnbroken m → TakesPacket slots.Link t m
+  cut_ended : (f : PacketCause) (line : List ℕ) (m : PacketView) (t u : List Event) → session_line (session.Packet f) ≡ Some line → IsUnbroken m → TakesPacket slots.Link t m
       → ◌≡◌ {A = Outcome} (Err fault) (Err (session.Packet f)) → IsEnded fault (t ++ u)
   cut_ended f line m t u told unbroken taken is =
       ended_as fault (session.Packet f) (t ++ u) (same_fault fault (session.Packet f) is) (ended_first (session.Packet f) t u (has_line (session.Packet f) t line told (packet_came t m taken unbroken)))

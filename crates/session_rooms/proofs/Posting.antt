@@ -4,8 +4,8 @@ use Rattle.std.proofs.lemmas.List.{append-nil, append_assoc}
 use Rattle.tl_numbers.specs.Bytes.{AreBytes}
 use Rattle.tl_base.specs.declared.host.Out.{Out}
 use Rattle.tl_base.specs.declared.host.Slot.TheVariants as slots
-use Rattle.tl_base.specs.declared.packet.PacketFault.{PacketFault}
-use Rattle.tl_base.specs.declared.packet.PacketFault.TheVariants as packet_fault
+use Rattle.update_sessions.specs.declared.fault.PacketCause.{PacketCause}
+use Rattle.update_sessions.specs.declared.fault.PacketCause.TheVariants as packet_fault
 use Rattle.tl_schema.specs.Schemas.{Declared}
 use Rattle.tl_schema.specs.Types.{Shape, call}
 use Rattle.tl_types.specs.Seen.{view}
@@ -180,17 +180,13 @@ packet_are q r x content is d = (whole_packet slots.Link d.trace content.items (
 tells_at : (line told : List ℕ) (q r : HostState) (status : Status) → line ≡ told → Did (Tells told PeerFault) q r (Some status) → DidIn to_link (Tells line PeerFault) q r (Some status)
 tells_at line told q r status is h = did_any _ q r status (subst (λ (l : List ℕ). Did (Tells l PeerFault) q r (Some status)) (sym is) h)
 
-pub packet_blamed : (fault : PacketFault) (line : Vec ℕ Global) (told : List ℕ) (q r : HostState) (status : Status) → TellsPacket fault (stop.Peer line) → told ≡ line.items → Did (Tells told PeerFault) q r (Some status) → TellsNoPacket fault q r (Some status)
+pub packet_blamed : (fault : PacketCause) (line : Vec ℕ Global) (told : List ℕ) (q r : HostState) (status : Status) → TellsPacket fault (stop.Peer line) → told ≡ line.items → Did (Tells told PeerFault) q r (Some status) → TellsNoPacket fault q r (Some status)
 packet_blamed (packet_fault.BadLength n) line told q r status is same h = tells_at (length_line n) told q r status (sym is ∙ sym same) h
 packet_blamed (packet_fault.Ended had) line told q r status is same h = tells_at (ended_line had) told q r status (sym is ∙ sym same) h
-packet_blamed packet_fault.ReadFault line told q r status is same h = tt
-packet_blamed packet_fault.Memory line told q r status is same h = tt
 
-pub packet_untold : (fault : PacketFault) (q : HostState) → TellsNoPacket fault q q None
+pub packet_untold : (fault : PacketCause) (q : HostState) → TellsNoPacket fault q q None
 packet_untold (packet_fault.BadLength n) q = did_none _ q (can_tell (length_line n) PeerFault)
 packet_untold (packet_fault.Ended had) q = did_none _ q (can_tell (ended_line had) PeerFault)
-packet_untold packet_fault.ReadFault q = tt
-packet_untold packet_fault.Memory q = tt
 
 -- ---- a packet in two parts
 

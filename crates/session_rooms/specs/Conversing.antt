@@ -1,7 +1,7 @@
 -- A client's session over the link in hand, packet by packet: what is asked is sent before the next packet is taken. This project's own.
 use Rattle.std.specs.Prelude.{◌≡◌, ℕ, ◌+◌, ltb, List, [], Bool, true, false, Option, Some, None, Result, Ok, Err}
 use Rattle.tl_base.specs.declared.host.Slot.TheVariants.{Link}
-use Rattle.tl_base.specs.declared.packet.PacketFault.TheVariants.{BadLength, Ended}
+use Rattle.update_sessions.specs.declared.fault.PacketCause.TheVariants.{BadLength, Ended}
 use Rattle.box_events.specs.declared.replies.Frame.{Frame}
 use Rattle.box_client.specs.States.{ClientState}
 use Rattle.box_client.specs.Asking.{ticks, wakes, is_one_asking}

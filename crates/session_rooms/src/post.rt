@@ -21,9 +21,10 @@ use outside::{
 use schema_files::{JSON_BYTES, SCHEMA_BYTES, fit_error, formed_value, schema_of};
 use session_commands::{Sending, call_of, reply_line};
 use std::alloc::{AllocError, Global};
-use tl_base::{Bytes, PacketFault, Slot};
+use tl_base::{Bytes, Slot};
 use tl_schema::{Schema, TypeRef};
 use tl_types::{Value, fits};
+use update_sessions::PacketCause;
 use wire_profile::Profile;
 
 /// Sends the call that an input's JSON is to an address, and writes its reply's JSON.
@@ -191,11 +192,11 @@ fn take_reply<H: Host>(
 {
     match take_packet(alloc, host, Slot::Link)? {
         Packet::Whole(body) => tell_reply(alloc, host, profile, number, body),
-        Packet::None => tell_packet(alloc, host, PacketFault::Ended { had: 0 }),
+        Packet::None => tell_packet(alloc, host, PacketCause::Ended { had: 0 }),
         Packet::BadLength { length } => {
-            tell_packet(alloc, host, PacketFault::BadLength { length })
+            tell_packet(alloc, host, PacketCause::BadLength { length })
         }
-        Packet::Ended { had } => tell_packet(alloc, host, PacketFault::Ended { had }),
+        Packet::Ended { had } => tell_packet(alloc, host, PacketCause::Ended { had }),
         Packet::Broken => Ok(tell(host, b"tlbox: link fault\n", Status::LinkFault)),
     }
 }
@@ -223,7 +224,7 @@ fn tell_reply<H: Host>(
 fn tell_packet<H: Host>(
     alloc: Global,
     host: &mut H,
-    fault: PacketFault,
+    fault: PacketCause,
 ) -> Result<Status, AllocError>
     ensures { TellsNoPacket fault (H.state host.old) (H.state host.new) (answered result) }
 {

@@ -1,7 +1,7 @@
 -- A session of a client over a link: what it reads and writes, and how it ends. This project's own.
 use Rattle.std.specs.Prelude.{◌≡◌, ◌⊎◌, ℕ, ◌<◌, ◌≤◌, List, [], ◌∷◌, ◌++◌, length, true, false, Some, Result, Ok, Err}
-use Rattle.tl_base.specs.declared.packet.PacketFault.{PacketFault}
-use Rattle.tl_base.specs.declared.packet.PacketFault.TheVariants.{Ended}
+use Rattle.update_sessions.specs.declared.fault.PacketCause.{PacketCause}
+use Rattle.update_sessions.specs.declared.fault.PacketCause.TheVariants.{Ended}
 use Rattle.box_events.specs.declared.replies.Frame.{Frame}
 use Rattle.box_client.specs.States.{ClientState}
 use Rattle.box_client.specs.Asking.{ticks, wakes, is_one_asking}
@@ -19,7 +19,7 @@ use Rattle.update_sessions.specs.Receiving.{RefusedPacket, ComesFirst}
 use Rattle.update_sessions.specs.Hearing.{cause_of, client_side}
 
 -- the bytes begin with no packet, or have ended
-abbrev pub NoFrame : List ℕ → PacketFault → Type 0
+abbrev pub NoFrame : List ℕ → PacketCause → Type 0
 NoFrame bytes fault = ((bytes ≡ []) × (fault ≡ Ended 0)) ⊎ NoPacket bytes fault
 
 -- a frame comes that the client refuses for this fault

@@ -2,8 +2,8 @@
 use Rattle.std.specs.Prelude.{◌≡◌, ◌⊎◌, ℕ, ◌<◌, List, [], ◌∷◌, ◌++◌, length}
 use Rattle.tl_numbers.specs.Numbers.{word}
 use Rattle.tl_base.specs.Packets.{IsPacketLength, packet, IsCutShort}
-use Rattle.tl_base.specs.declared.packet.PacketFault.{PacketFault}
-use Rattle.tl_base.specs.declared.packet.PacketFault.TheVariants as packets
+use Rattle.update_sessions.specs.declared.fault.PacketCause.{PacketCause}
+use Rattle.update_sessions.specs.declared.fault.PacketCause.TheVariants as packets
 use Rattle.box_events.specs.declared.requests.Numbered.{Numbered}
 use Rattle.box_events.specs.declared.replies.Frame.{Frame}
 use Rattle.wire_profile.specs.Indexes.{ProfileView}
@@ -47,8 +47,6 @@ Came Means bytes [] left = bytes ≡ left
 Came Means bytes (m ∷ ms) left = (b : List ℕ) × (rest : List ℕ) × IsPacketLength (length b) × (bytes ≡ packet b ++ rest) × Means m b × Came Means rest ms left
 
 -- bytes begin with no packet
-abbrev pub NoPacket : List ℕ → PacketFault → Type 0
+abbrev pub NoPacket : List ℕ → PacketCause → Type 0
 NoPacket bytes (packets.BadLength n) = (rest : List ℕ) × (bytes ≡ word n ++ rest) × ¬ IsPacketLength n
 NoPacket bytes (packets.Ended had) = (length bytes ≡ had) × (0 < had) × IsCutShort bytes
-NoPacket bytes packets.ReadFault = ⊥
-NoPacket bytes packets.Memory = ⊥

@@ -9,12 +9,23 @@ use wire_profile::WireFault;
 /// How many frames a session takes at most.
 pub const MAX_FRAMES: u64 = 1_048_576;
 
+/// Why the next bytes are no packet.
+#[derive(Clone, Copy, Debug, Error)]
+pub enum PacketCause {
+    /// No packet has so many bytes.
+    #[error("a packet of {length} bytes")]
+    BadLength { length: u32 },
+    /// The input ended after so many bytes of the packet.
+    #[error("the input ended after {had} bytes")]
+    Ended { had: u32 },
+}
+
 /// Why a session ended.
 #[derive(Clone, Copy, Debug, Error)]
 pub enum SessionFault {
-    /// The next bytes are no packet; `Ended` with 0 bytes where the link has ended and a client still asks. It holds no `ReadFault` and no `Memory`.
+    /// The next bytes are no packet; `Ended` with 0 bytes where the link has ended and a client still asks.
     #[error(transparent)]
-    Packet(PacketFault),
+    Packet(PacketCause),
     /// The next packet is no message.
     #[error(transparent)]
     Wire(WireFault),
@@ -49,9 +60,10 @@ impl From<PacketFault> for SessionFault {
 
     fn from(fault: PacketFault) -> SessionFault {
         match fault {
-            PacketFault::BadLength { .. } | PacketFault::Ended { .. } => {
-                SessionFault::Packet(fault)
+            PacketFault::BadLength { length } => {
+                SessionFault::Packet(PacketCause::BadLength { length })
             }
+            PacketFault::Ended { had } => SessionFault::Packet(PacketCause::Ended { had }),
             PacketFault::ReadFault => SessionFault::LinkFault,
             PacketFault::Memory => SessionFault::Memory,
         }

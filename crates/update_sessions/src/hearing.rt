@@ -11,12 +11,12 @@ ghost use Rattle.update_sessions.specs.Links.{LinkNeverFails, OverLink, UsesLink
 ghost use Rattle.update_sessions.specs.inner.Steps.{HearsNext};
 
 use crate::asking::{hear_frame, put_asks};
-use crate::fault::{MAX_FRAMES, SessionFault};
+use crate::fault::{MAX_FRAMES, PacketCause, SessionFault};
 use crate::receiving::receive_frame;
 use box_client::Client;
 use box_events::Asks;
 use std::alloc::Global;
-use tl_base::{Bytes, Link, PacketFault, write_all};
+use tl_base::{Bytes, Link, write_all};
 use wire_profile::Profile;
 
 /// Asks for all that is new, and hears frames until it asks no more. It says how many there were.
@@ -95,7 +95,7 @@ fn hear_next<L: Link>(
     ensures never { LinkNeverFails (L.Source.state link.old) (L.Sink.state link.old) (MaySendFor (client_side profile.now) 1 client.old) (IsErrOf result SessionFault.LinkFault) }
 {
     let Some(frame) = receive_frame(alloc, profile, link, packet)? else {
-        return Err(SessionFault::Packet(PacketFault::Ended { had: 0 }));
+        return Err(SessionFault::Packet(PacketCause::Ended { had: 0 }));
     };
     hear_frame(alloc, client, frame)?;
     put_asks(alloc, profile, client, asks, out)?;

@@ -1,9 +1,9 @@
 -- What `post` comes to over an outside, whatever stops it.
-use Rattle.std.proofs.Common.{◌≡◌, ℕ, List, [], ◌∷◌, ◌++◌, length, Bool, true, false, Some, refl, sym, ap, ◌∙◌, subst, inl, inr, arith, codes}
+use Rattle.std.proofs.Common.{◌≡◌, ℕ, List, [], ◌∷◌, ◌++◌, length, Bool, true, false, refl, sym, ap, ◌∙◌, subst, inl, inr, arith, codes}
 use Rattle.tl_base.specs.Outside.{View, left_of, written_of}
 use Rattle.tl_base.specs.Packets.{packet}
-use Rattle.tl_base.specs.declared.packet.PacketFault.{PacketFault}
-use Rattle.tl_base.specs.declared.packet.PacketFault.TheVariants as faults
+use Rattle.update_sessions.specs.declared.fault.PacketCause.{PacketCause}
+use Rattle.update_sessions.specs.declared.fault.PacketCause.TheVariants as faults
 use Rattle.tl_base.specs.declared.host.Out.TheVariants as outs
 use Rattle.tl_base.specs.declared.host.Slot.TheVariants as slots
 use Rattle.wire_profile.specs.Indexes.{ProfileView}
@@ -75,7 +75,7 @@ module _ (W : Type 0) where
       came : (o : Outcome) → OfLink p number given o → Printed W (status_of o) (shown_of o) (line_of o) r s n → Heard given r s n
       lost : r ≡ LinkFault → Alone W link_fault_line s n → Heard given r s n
 
-    none_came : (given : List ℕ) (fault : PacketFault) (line : List ℕ) (t : List Event) (r : Status) (s n : Outside) → NoFrame given fault → IsWordLong fault → packet_line fault ≡ Some line → Tells line PeerFault t r → Fits t s n → Causes W t
+    none_came : (given : List ℕ) (fault : PacketCause) (line : List ℕ) (t : List Event) (r : Status) (s n : Outside) → NoFrame given fault → IsWordLong fault → packet_line fault ≡ line → Tells line PeerFault t r → Fits t s n → Causes W t
         → Heard given r s n
     none_came given fault line t r s n frame long is h f c = came (peer line) (no_packet fault line frame long is refl) (told_printed W PeerFault r line t s n h f c)
 

@@ -1,7 +1,6 @@
 -- A session that stops while it sends has sent less than one that ends over the same bytes.
-use Rattle.std.proofs.Common.{◌≡◌, ℕ, ◌+◌, ◌<◌, ◌≤◌, List, [], ◌∷◌, ◌++◌, length, length-append, append-nil, append_assoc, true≢false, Some, None, Result, Ok, Err, refl, sym, ap, ◌∙◌, subst, inl, inr, arith}
+use Rattle.std.proofs.Common.{◌≡◌, ℕ, ◌+◌, ◌<◌, ◌≤◌, List, [], ◌∷◌, ◌++◌, length, length-append, append-nil, true≢false, Some, None, Result, Ok, Err, sym, ap, ◌∙◌, subst, inl, inr, arith}
 use Rattle.tl_numbers.specs.Bytes.{AreBytes}
-use Rattle.tl_base.specs.Packets.{packet}
 use Rattle.tl_encode.proofs.OneSpelling.{one_spelling}
 use Rattle.box_client.specs.Asking.{ticks, wakes}
 use Rattle.box_client.specs.States.{ClientState}
@@ -23,61 +22,21 @@ use Rattle.box_wire.proofs.FrameLaws.{frame_formed, frame_laws}
 use Rattle.update_sessions.specs.declared.fault.SessionFault.{SessionFault}
 use Rattle.update_sessions.specs.declared.fault.SessionFault.TheVariants.{Packet, Wire, Client, TooManyFrames, LinkFault, Memory}
 use Rattle.update_sessions.specs.declared.fault.TheConstants.{MAX_FRAMES}
-use Rattle.update_sessions.specs.Exchanges.{Side, sends_all, Exchanged}
+use Rattle.update_sessions.specs.Exchanges.{Side, Exchanged}
 use Rattle.update_sessions.specs.Heard.{HearsOn, Hears, IsBrokenOff, RefusedFrame, broke_off, asked}
 use Rattle.update_sessions.specs.Hearing.{IsTaken, cause_of, client_side}
 use Rattle.update_sessions.specs.Packed.{Came, MeansFrame, Packed, SpellsCall}
 use Rattle.update_sessions.specs.Receiving.{ComesFirst, RefusedPacket}
-use Rattle.session_commands.proofs.OneExchange.{Ended, goes_on, one_packed, rest_bytes, same_first, same_rest}
+use Rattle.session_commands.proofs.OneExchange.{Ended, first_of, goes_on, one_packed, rest_bytes, same_first, same_rest}
 use Rattle.session_commands.proofs.OnePacket.{never_packet}
 use Rattle.session_commands.proofs.OneReply.{body_bytes}
 use Rattle.session_commands.proofs.OneSession.{IsWhole}
 use Rattle.session_rooms.specs.Sending.{PartlySent}
-
--- ---- packets
-
--- what messages and others after them spell are the packets of both
-packed_parts : {M : Type 0} (Spells : M → List ℕ → Type 0) (ms ns : List M) (z : List ℕ) → Packed Spells (ms ++ ns) z → (x : List ℕ) × (y : List ℕ) × (z ≡ x ++ y) × Packed Spells ms x × Packed Spells ns y
-packed_parts Spells [] ns z p = ([], z, refl, refl, p)
-packed_parts Spells (m ∷ ms) ns z (b, rest, s, is, p) =
-    let more = packed_parts Spells ms ns rest p in
-    (packet b ++ more.0, more.1, is ∙ ap (λ (l : List ℕ). packet b ++ l) more.2 ∙ sym (append_assoc (packet b) more.0 more.1), (b, more.0, s, refl, more.3), more.4)
-
--- less than the packets of messages is shorter than these
-part_shorter : {M : Type 0} (Spells : M → List ℕ → Type 0) → ((m : M) (b d : List ℕ) → Spells m b → Spells m d → b ≡ d) → (ms : List M) (part all : List ℕ) → PartlySent Spells ms part → Packed Spells ms all → length part < length all
-part_shorter Spells one [] part all sent p = absurd sent
-part_shorter Spells one (m ∷ ms) part all (inl none) (b, rest, s, is, p) = omega (arith, ap length none, ap length is, length-append (packet b) rest)
-part_shorter Spells one (m ∷ ms) part all (inr (d, t, inl (more, join, some))) (b, rest, s, is, p) =
-    omega (arith, ap length is, length-append (packet b) rest, ap length join, length-append part more, some, ap length (one m b d s t))
-part_shorter Spells one (m ∷ ms) part all (inr (d, t, inr (more, join, sent))) (b, rest, s, is, p) =
-    omega (arith, ap length is, length-append (packet b) rest, ap length join, length-append (packet d) more, ap length (one m b d s t), part_shorter Spells one ms more rest sent p)
+use Rattle.run_laws.proofs.serving.WholeSessions.{partly_less}
 
 -- ---- an exchange that stops, and one that ends
 
 module _ {S M N : Type 0} (side : Side S M N) (one : (b : List ℕ) → AreBytes b → (m n : M) → side.means m b → side.means n b → m ≡ n) (spelled : (n : N) (b d : List ℕ) → side.spells n b → side.spells n d → b ≡ d) where
-  -- what comes next, and what is sent for it
-  record Next (s : S) (left out : List ℕ) (n : M) : Type 0 where
-    rest : List ℕ
-    comes : ComesFirst side.means n left rest
-    takes : side.takes s n
-    first : List ℕ
-    others : List ℕ
-    wrote : Packed side.spells (side.sends s n) first
-    parts : out ≡ first ++ others
-
-  next_of : (s t : S) (left after out : List ℕ) (n : M) (more : List M) → Exchanged side s left after out t (n ∷ more) → Next s left out n
-  next_of s t left after out n more e =
-      let split = packed_parts side.spells (side.sends s n) (sends_all side (side.next s n) more) out e.wrote in
-      record {
-        rest = e.came.1;
-        comes = record { body = e.came.0; fits = e.came.2; parts = e.came.3; means = e.came.4 };
-        takes = e.taken.0;
-        first = split.0;
-        others = split.1;
-        wrote = split.3;
-        parts = split.2;
-      }
-
   -- an exchange of ms, after which one more is taken, and only a part of what is sent for it was sent
   module _ (s : S) (bytes left out : List ℕ) (u : S) (ms : List M) (bytes_left : AreBytes left) (few : length ms < MAX_FRAMES) (m : M) (rest part : List ℕ) (comes : ComesFirst side.means m left rest) (takes : side.takes u m)
       (sent : PartlySent side.spells (side.sends u m) part) where
@@ -91,16 +50,16 @@ module _ {S M N : Type 0} (side : Side S M N) (one : (b : List ℕ) → AreBytes
     on_from_here after whole more_out t ns [] e all wrote x =
         absurd (stopped_there after whole t ns e (subst (λ (l : List M). length l < MAX_FRAMES) (sym (all ∙ append-nil ms)) few) x.came (sym x.ends))
     on_from_here after whole more_out t ns (n ∷ more) e all wrote x =
-        let next = next_of u t left after more_out n more x in
+        let next = first_of side u left after more_out t n more x in
         let same = (same_first side one spelled left rest next.rest m n bytes_left comes next.comes).0 in
-        let less = part_shorter side.spells spelled (side.sends u m) part next.first sent (subst (λ (k : M). Packed side.spells (side.sends u k) next.first) (sym same) next.wrote) in
+        let less = partly_less side.spells spelled (side.sends u m) part next.first sent (subst (λ (k : M). Packed side.spells (side.sends u k) next.first) (sym same) next.wrote) in
         omega (arith, less, ap length wrote, length-append out more_out, ap length next.parts, length-append next.first next.others)
 
     -- it has ended before
     before_here : (after whole more_out : List ℕ) (t : S) (ns more : List M) → Ended side s bytes after whole t ns → ms ≡ ns ++ more → Exchanged side t after left more_out u more → ⊥
     before_here after whole more_out t ns [] e all x = stopped_there after whole t ns e (subst (λ (l : List M). length l < MAX_FRAMES) (all ∙ append-nil ns) few) (sym x.came) x.ends
     before_here after whole more_out t ns (n ∷ more) e all x =
-        let next = next_of t u after left more_out n more x in
+        let next = first_of side t after left more_out u n more x in
         e.stops n next.rest (omega (arith, few, ap length all, length-append ns (n ∷ more))) next.comes next.takes
 
     pub sent_less : (after whole : List ℕ) (t : S) (ns : List M) → AreBytes bytes → Exchanged side s bytes left out u ms → Ended side s bytes after whole t ns → length out + length part < length whole
@@ -188,7 +147,7 @@ module _ (p : ProfileView) (good : IsProfile p) where
     -- at first
     pub first_less : (part : List ℕ) → PartlySent (SpellsCall p) (ticks (wakes c)).asks part → length part < length out
     first_less part sent =
-        let less = part_shorter (SpellsCall p) one_call (ticks (wakes c)).asks part session.first sent session.asked_first in
+        let less = partly_less (SpellsCall p) one_call (ticks (wakes c)).asks part session.first sent session.asked_first in
         omega (arith, less, ap length session.parts, length-append session.first session.more)
 
     -- after frames

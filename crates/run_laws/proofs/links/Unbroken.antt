@@ -6,7 +6,7 @@ use Rattle.tl_base.specs.Kinds.{slot_kind}
 use Rattle.tl_base.specs.Outside.{left_of}
 use Rattle.tl_base.specs.declared.host.Out.TheVariants as outs
 use Rattle.tl_base.specs.declared.host.Slot.TheVariants.{Link}
-use Rattle.tl_base.specs.declared.packet.PacketFault.TheVariants.{BadLength, Ended}
+use Rattle.update_sessions.specs.declared.fault.PacketCause.TheVariants.{BadLength, Ended}
 use Rattle.box_events.specs.declared.replies.Frame.{Frame}
 use Rattle.box_client.specs.Asking.{ticks, wakes, is_one_asking}
 use Rattle.box_client.specs.States.{ClientState}

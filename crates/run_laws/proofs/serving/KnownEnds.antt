@@ -97,7 +97,7 @@ packet_end (Some l) is = absurd cc
 
 pub failed_end : (r : Result ℕ SessionFault) → end_of r ≡ Some link_fault → r ≡ Err session.LinkFault
 failed_end (Ok n) is = absurd cc
-failed_end (Err (session.Packet f)) is = absurd (packet_end (packet_line f) is)
+failed_end (Err (session.Packet f)) is = absurd (packet_end (Some (packet_line f)) is)
 failed_end (Err (session.Wire f)) is = absurd (packet_end (Some (wire_line (codes "peer") f)) is)
 failed_end (Err (session.Client f)) is = absurd (packet_end (Some (answer_line f)) is)
 failed_end (Err session.TooManyFrames) is = absurd cc

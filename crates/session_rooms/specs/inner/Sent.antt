@@ -1,7 +1,7 @@
 -- What the parts of `post` do. This project's own.
 use Rattle.std.specs.Prelude.{◌≡◌, ℕ, List, Option, Result, Ok, Err}
-use Rattle.tl_base.specs.declared.packet.PacketFault.{PacketFault}
-use Rattle.tl_base.specs.declared.packet.PacketFault.TheVariants.{BadLength, Ended, ReadFault, Memory}
+use Rattle.update_sessions.specs.declared.fault.PacketCause.{PacketCause}
+use Rattle.update_sessions.specs.declared.fault.PacketCause.TheVariants.{BadLength, Ended}
 use Rattle.tl_schema.specs.Types.{call}
 use Rattle.tl_types.specs.Values.{ValueView}
 use Rattle.tl_types.specs.Spelling.{Spells}
@@ -37,9 +37,7 @@ abbrev pub MakesCall : ProfileView → List ℕ → Result Sending LoadError →
 MakesCall p text (Ok s) = (x : ValueView) × IsJsonOf p.schema call text x × Spells p.schema call x s.bytes × MaySendCall p s.bytes s.number
 MakesCall p text (Err fault) = Refuses (TellsNothing p text) fault
 
--- what came is told, which begins with no packet; out of memory is free
-abbrev pub TellsNoPacket : PacketFault → HostState → HostState → Option Status → Type 0
+-- what came is told, which begins with no packet
+abbrev pub TellsNoPacket : PacketCause → HostState → HostState → Option Status → Type 0
 TellsNoPacket (BadLength n) q r answer = DidIn to_link (Tells (length_line n) PeerFault) q r answer
 TellsNoPacket (Ended had) q r answer = DidIn to_link (Tells (ended_line had) PeerFault) q r answer
-TellsNoPacket ReadFault q r answer = Unit {0}
-TellsNoPacket Memory q r answer = Unit {0}
