@@ -3,6 +3,8 @@ use Rattle.std.proofs.Common.{◌≡◌, ℕ, ◌<◌, List, [], ◌++◌, lengt
 use Rattle.std.specs.Prelude.{IfOk, IfErr}
 use Rattle.tl_numbers.specs.Bytes.{AreBytes}
 use Rattle.tl_schema.specs.Formed.{IsFormed}
+use Rattle.tl_schema.specs.Schemas.{Declared}
+use Rattle.tl_schema.specs.Types.{Shape}
 use Rattle.tl_types.specs.Seen.{view}
 use Rattle.tl_types.specs.Values.{ValueView}
 use Rattle.tl_types.specs.Refusal as refusal
@@ -12,9 +14,9 @@ use Rattle.tl_types.specs.declared.cause.Cause.{Cause}
 use Rattle.tl_types.specs.declared.value.TheConstants.{MAX_LEVELS}
 use Rattle.tl_types.specs.declared.value.Value.{Value}
 use Rattle.tl_types.proofs.Exactly.{exactly_one}
-use Rattle.tl_decode.specs.Wholes.{ReadsWhole}
-use Rattle.tl_decode.specs.declared.whole.WholeFault.{WholeFault}
-use Rattle.tl_decode.specs.declared.whole.WholeFault.TheVariants as whole
+use Rattle.tl_decode.specs.Wholes.{ReadsBytes}
+use Rattle.tl_decode.specs.declared.whole.WholeCause.{WholeCause}
+use Rattle.tl_decode.specs.declared.whole.WholeCause.TheVariants as whole
 use Rattle.wire_forms.specs.IsOf.{IsOf}
 use Rattle.wire_profile.specs.Indexes.{ProfileView, cell_shape}
 use Rattle.wire_profile.specs.Profiles.{IsProfile}
@@ -25,6 +27,7 @@ use Rattle.wire_profile.specs.declared.wire_fault.WireFault.TheVariants as wire
 use Rattle.box_wire.specs.Kinds.{Kind}
 use Rattle.box_wire.specs.Framing.{SpellsWhole, Means, WireRefused, no_value, goes_on, no_message}
 use Rattle.box_wire.specs.Answers.{HasCause, Reads}
+use Rattle.box_wire.specs.FramesRead.{IsUnread}
 use Rattle.tl_base.specs.declared.fault.Fault.{Fault}
 use Rattle.tl_base.specs.declared.fault.Fault.TheVariants as fault
 use Rattle.box_wire.specs.inner.Wholes.{ReadsValue, AnswersMessage, as_wire_fault}
@@ -59,6 +62,16 @@ no_more bytes x rest same is some = let e = ap length same in let f = ap length 
 pub value_spelled : (p : ProfileView) (kind : Kind) (bytes : List ℕ) (r : Result Value (Fault WireFault)) → ReadsValue p.schema (cell_shape p kind.cell) bytes r → IfOk r (λ value. SpellsWhole p kind (view value) bytes)
 value_spelled p kind bytes (Ok value) spelled = spelled
 value_spelled p kind bytes (Err e) none = tt
+
+-- what isn't read is so for its bytes
+unread_as : (e : Fault WireFault) (f : Fault WholeCause) → e ≡ as_wire_fault f → IsUnread e
+unread_as e (fault.Refused (whole.Refused place cause)) is = subst IsUnread (sym is) tt
+unread_as e (fault.Refused (whole.Trailing place)) is = subst IsUnread (sym is) tt
+unread_as e fault.Memory is = subst IsUnread (sym is) tt
+
+pub value_unread : (S : Declared) (T : Shape) (bytes : List ℕ) (r : Result Value (Fault WireFault)) → ReadsValue S T bytes r → IfErr r IsUnread
+value_unread S T bytes (Ok value) spelled = tt
+value_unread S T bytes (Err e) none = unread_as e none.0 none.2
 
 module _ (p : ProfileView) (good : IsProfile p) (kind : Kind) (formed : IsFormed p.schema (cell_shape p kind.cell)) (bytes : List ℕ) (are : AreBytes bytes) where
   one : ExactlyOne p.schema MAX_LEVELS (cell_shape p kind.cell) bytes
@@ -104,11 +117,10 @@ module _ (p : ProfileView) (good : IsProfile p) (kind : Kind) (formed : IsFormed
   one_fault e f (no_message v r c) (goes_on w x rest s on some at) = absurd (not_on v w x rest r s on some)
   one_fault e f (no_message w s c) (no_message v r d) = some_is e f (cause_as w v (Some e) (Some f) s r c d)
 
-  told_of : (e : Fault WireFault) (f : WholeFault) → ReadsWhole p.schema (cell_shape p kind.cell) bytes (Err f) → e ≡ as_wire_fault f → HasCause (WireRefused p kind bytes) e
-  told_of e (whole.Refused place cause) (offset, r, at) is = subst (HasCause (WireRefused p kind bytes)) (sym is) (no_value offset cause r (ap (λ (n : ℕ). wire.Refused n cause) at))
-  told_of e (whole.Trailing place) (v, x, rest, split, some, spells, deep, at) is = subst (HasCause (WireRefused p kind bytes)) (sym is) (goes_on v x rest (spells, deep) split some (ap (λ (n : ℕ). wire.Trailing n) at))
-  told_of e whole.ReadFault r is = subst (HasCause (WireRefused p kind bytes)) (sym is) tt
-  told_of e whole.Memory r is = subst (HasCause (WireRefused p kind bytes)) (sym is) tt
+  told_of : (e : Fault WireFault) (f : Fault WholeCause) → ReadsBytes p.schema (cell_shape p kind.cell) bytes (Err f) → e ≡ as_wire_fault f → HasCause (WireRefused p kind bytes) e
+  told_of e (fault.Refused (whole.Refused place cause)) (offset, r, at) is = subst (HasCause (WireRefused p kind bytes)) (sym is) (no_value offset cause r (ap (λ (n : ℕ). wire.Refused n cause) at))
+  told_of e (fault.Refused (whole.Trailing place)) (v, x, rest, split, some, spells, deep, at) is = subst (HasCause (WireRefused p kind bytes)) (sym is) (goes_on v x rest (spells, deep) split some (ap (λ (n : ℕ). wire.Trailing n) at))
+  told_of e fault.Memory r is = subst (HasCause (WireRefused p kind bytes)) (sym is) tt
 
   module _ {M : Type 0} (tree : M → ValueView) (inside : ValueView → M) (Is : M → Type 0) (laws : KindLaws kind tree inside Is) where
     -- what is answered, of the bytes

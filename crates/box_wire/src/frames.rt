@@ -9,7 +9,7 @@ ghost use Rattle.wire_values.specs.CarriedFrames.{IsFrame};
 ghost use Rattle.wire_values.specs.Frames.{frame_in, frame_tree};
 ghost use Rattle.box_wire.specs.Answers.{Reads, Spelled};
 ghost use Rattle.box_wire.specs.Framing.{Framed, Means, SpellsWhole, WireRefused};
-ghost use Rattle.box_wire.specs.FramesRead.{ReadsFrame};
+ghost use Rattle.box_wire.specs.FramesRead.{IsUnread, ReadsFrame};
 ghost use Rattle.box_wire.specs.Kinds.{frames};
 ghost use Rattle.box_wire.specs.inner.Wholes.{AnswersMessage};
 
@@ -53,6 +53,7 @@ pub fn decode_frame(
 ) -> Result<Value, Fault<WireFault>>
     ensures value { IfOk result (λ value. SpellsWhole profile.now frames (view value) bytes.now) }
     ensures refused { IfErr result (λ fault. ReadsFrame profile.now bytes.now (Err fault)) }
+    ensures unread { IfErr result IsUnread }
     ensures bytes { AreBytes bytes.now }
     ensures sound { IsProfile profile.now }
 {

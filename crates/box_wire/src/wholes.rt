@@ -1,5 +1,5 @@
 //! Values that are the whole of some bytes, and the bytes of values.
-ghost use Rattle.std.specs.Prelude.{◌≡◌, ◌≢◌, ◌<◌, IfOk};
+ghost use Rattle.std.specs.Prelude.{◌≡◌, ◌<◌, IfOk};
 ghost use Rattle.tl_numbers.specs.Bytes.{AreBytes};
 ghost use Rattle.tl_schema.specs.Types.{Shape, call};
 ghost use Rattle.tl_schema.specs.Formed.{IsFormed};
@@ -12,23 +12,25 @@ use crate::fault::SpellFault;
 use box_events::MAX_FRAME_BYTES;
 use std::alloc::{AllocError, Global};
 use tl_base::{Bytes, Fault};
-use tl_decode::{WholeFault, decode_bytes, decode_bytes_as};
+use tl_decode::{WholeCause, decode_bytes, decode_bytes_as};
 use tl_encode::{spelling_as, spelling_of};
 use tl_plan::Plan;
 use tl_schema::{Schema, TypeRef};
 use tl_types::Value;
 use wire_profile::WireFault;
 
-// A fault over bytes in memory, which are always read.
-fn wire_fault(fault: WholeFault) -> Fault<WireFault>
-    requires { fault ≢ WholeFault.ReadFault }
+// Why bytes are no value, as a message's fault.
+fn wire_fault(fault: Fault<WholeCause>) -> Fault<WireFault>
     ensures { result ≡ as_wire_fault fault }
 {
     match fault {
-        WholeFault::Refused { place, cause } => Fault::Refused(WireFault::Refused { place, cause }),
-        WholeFault::Trailing { place } => Fault::Refused(WireFault::Trailing { place }),
-        WholeFault::ReadFault => unreachable!(),
-        WholeFault::Memory => Fault::Memory,
+        Fault::Refused(WholeCause::Refused { place, cause }) => {
+            Fault::Refused(WireFault::Refused { place, cause })
+        }
+        Fault::Refused(WholeCause::Trailing { place }) => {
+            Fault::Refused(WireFault::Trailing { place })
+        }
+        Fault::Memory => Fault::Memory,
     }
 }
 

@@ -50,8 +50,7 @@ module _ (schema input : List ℕ) where
     keeps_after : (s : SoFar) (v : PacketView) → Keeps P (after_packet D s v)
     keeps_after s (taken.whole content) = keeps_whole s content
     keeps_after s taken.none = keeps_last _ (keeps_end P status.Done)
-    keeps_after s (taken.bad_length n) = keeps_refusal s.at _
-    keeps_after s (taken.ended had) = keeps_refusal s.at _
+    keeps_after s (taken.wrong cause) = keeps_refusal s.at _
     keeps_after s taken.broken = keeps_last _ (keeps_tell P (λ _. tt) tt _ _)
 
     keeps_next : (s : SoFar) → Keeps P (TellsNext D s)
@@ -114,8 +113,7 @@ module _ (D : Declared) where
   cause_after : (s : SoFar) (v : PacketView) (t : List Event) → TakesPacket Input t v → Causes t (after_packet D s v)
   cause_after s (taken.whole content) t takes = λ u x h. explains_last x t u (cause_whole D s content u x h)
   cause_after s taken.none t takes = λ u x h. explains_last x t u (cause_last (Ends status.Done) cause_done u x h)
-  cause_after s (taken.bad_length n) t takes = λ u x h. explains_last x t u (cause_refusal s.at _ u x h)
-  cause_after s (taken.ended had) t takes = λ u x h. explains_last x t u (cause_refusal s.at _ u x h)
+  cause_after s (taken.wrong cause) t takes = λ u x h. explains_last x t u (cause_refusal s.at _ u x h)
   cause_after s taken.broken t takes = cause_told _ status.ReadFault t (broken_packet Input t takes)
 
   cause_next : (s : SoFar) (t : List Event) (x : Status) → TellsNext D s t (leave x) → Explains x t

@@ -75,8 +75,7 @@ module _ (schema : Declared) (good : IsSchema schema) (s : SoFar) (results : (n 
   can_after : (t : List Event) (v : PacketView) → TakesPacket Input t v → Begins (after_packet schema s v) []
   can_after t (taken.whole content) h = let w = whole_packet Input t content h in can_packet content w.1 w.0
   can_after t taken.none h = can_last (Ends Done) (can_end Done)
-  can_after t (taken.bad_length n) h = can_refuse s.at _
-  can_after t (taken.ended had) h = can_refuse s.at _
+  can_after t (taken.wrong cause) h = can_refuse s.at _
   can_after t taken.broken h = can_last _ (can_tell _ _)
 
   -- memory ran out while a packet was taken
@@ -118,8 +117,7 @@ module _ (schema : Declared) (s n : SoFar) where
   may_after : (v : PacketView) (t : List Event) → after_packet schema s v t (again n) → Throughout (WritesOnly to_output) t
   may_after (taken.whole content) t h = may_packet_told content t h
   may_after taken.none t h = absurd (not_last _ t n h)
-  may_after (taken.bad_length m) t h = absurd (not_last _ t n h)
-  may_after (taken.ended had) t h = absurd (not_last _ t n h)
+  may_after (taken.wrong cause) t h = absurd (not_last _ t n h)
   may_after taken.broken t h = absurd (not_last _ t n h)
 
   -- a turn that goes on writes to Output alone

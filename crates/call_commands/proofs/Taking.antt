@@ -4,7 +4,7 @@ use Rattle.std.specs.Prelude.{IfOk}
 use Rattle.std.specs.declared.alloc.AllocError.{AllocError}
 use Rattle.tl_base.specs.declared.host.Out.TheVariants.{Output}
 use Rattle.tl_base.specs.declared.host.Slot.TheVariants.{Input}
-use Rattle.tl_base.specs.declared.packet.PacketFault.TheVariants as packet_fault
+use Rattle.tl_base.specs.declared.packet.PacketCause.{PacketCause}
 use Rattle.tl_schema.specs.Schemas.{Declared}
 use Rattle.tl_calls.specs.Calling.{CallsView, StandsFor}
 use Rattle.tl_calls.specs.Events.{Log, Logged}
@@ -15,7 +15,7 @@ use Rattle.outside.specs.declared.status.Status.{Status}
 use Rattle.outside.specs.declared.stop.LoadError.{LoadError}
 use Rattle.outside.specs.declared.stop.LoadError.TheVariants as load_error
 use Rattle.outside.specs.Events.{Event, HostState}
-use Rattle.outside.specs.Packets.{PacketView, TakesPacket, packet_view}
+use Rattle.outside.specs.Packets.{PacketView, TakesPacket, packet_view, packet_words}
 use Rattle.outside.specs.Packets as taken
 use Rattle.outside.specs.Pieces.{Writes}
 use Rattle.outside.specs.Printing.{Prints}
@@ -26,7 +26,7 @@ use Rattle.outside.specs.declared.packets.Packet.{Packet}
 use Rattle.outside.proofs.TakenPackets.{may_packet}
 use Rattle.outside.proofs.Growing.{did_any, did_both, did_more, did_none, did_then, loop_left, loop_stopped, reached_none, reached_turn}
 use Rattle.schema_files.specs.Lines.{input_line}
-use Rattle.call_commands.specs.Answering.{SaysRefused, TellsPacket, TellsUnpacked}
+use Rattle.call_commands.specs.Answering.{SaysRefused, TellsPacket}
 use Rattle.call_commands.specs.CallReports.{ContentRefused, Tells}
 use Rattle.call_commands.specs.declared.limits.TheConstants.{MAX_PACKET_END}
 use Rattle.codec_rooms.proofs.Typing.{did_as}
@@ -70,11 +70,8 @@ module _ (schema : Declared) (new : CallsView) (past : Log) where
         → Turns (TellsNext schema (so_far past at)) schema new past p q r
     taken_turn p m q x v r is h = then_turn p m q v r (subst (λ (y : PacketView). Did (TakesPacket Input) p m (Some y)) is h)
 
-    pub bad_turn : (p q : HostState) (n : ℕ) (u : LoadError) (r : Result Turn AllocError) → TellsUnpacked at (packet_fault.BadLength n) u → EndsMade (of_fault u) p q r → Turns (after_packet schema (so_far past at) (taken.bad_length n)) schema new past p q r
-    bad_turn p q n u r tells = line_turn at (codes "BadLength " ++ decimal n) u p q r tells.1
-
-    pub cut_turn : (p q : HostState) (had : ℕ) (u : LoadError) (r : Result Turn AllocError) → TellsUnpacked at (packet_fault.Ended had) u → EndsMade (of_fault u) p q r → Turns (after_packet schema (so_far past at) (taken.ended had)) schema new past p q r
-    cut_turn p q had u r tells = line_turn at (codes "Ended " ++ decimal had) u p q r tells
+    pub wrong_turn : (p q : HostState) (cause : PacketCause) (u : LoadError) (r : Result Turn AllocError) → RefusesAs (input_line at (packet_words cause)) u → EndsMade (of_fault u) p q r → Turns (after_packet schema (so_far past at) (taken.wrong cause)) schema new past p q r
+    wrong_turn p q cause u r = line_turn at (packet_words cause) u p q r
 
     -- ---- a whole packet
 

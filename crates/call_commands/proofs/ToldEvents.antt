@@ -9,10 +9,12 @@ use Rattle.tl_types.specs.Values.{ValueView}
 use Rattle.tl_types.specs.Seen.{view}
 use Rattle.tl_types.specs.declared.value.Value.{Value}
 use Rattle.tl_types.proofs.Views.{shape-Call}
-use Rattle.tl_calls.specs.Calling.{CallsView, ReadsAnswer, Sends, LogsSent, Answers, AnswersTo, ToCall, LogsCame, open_at}
+use Rattle.tl_decode.specs.Wholes.{ReadsBytes}
+use Rattle.tl_calls.specs.Calling.{CallsView, Sends, LogsSent, Answers, AnswersTo, ToCall, LogsCame, open_at}
 use Rattle.tl_calls.specs.Events.{sent, came}
 use Rattle.tl_calls.specs.Results.{result_type}
-use Rattle.tl_calls.specs.declared.fault.AnswerFault.{AnswerFault}
+use Rattle.tl_base.specs.declared.fault.Fault.{Fault}
+use Rattle.tl_decode.specs.declared.whole.WholeCause.{WholeCause}
 use Rattle.tl_calls.proofs.Answers.{none_logs}
 use Rattle.tl_calls.proofs.Stands.{found_open, open_found}
 use Rattle.schema_files.specs.Lines.{line_text}
@@ -39,10 +41,10 @@ module _ (schema : Declared) (old new : CallsView) (at : ℕ) (b : List ℕ) whe
   -- ---- answers
 
   -- what an answer to an open call does
-  pub to_call : (n : ℕ) (c : ValueView) (r : Result (Option Value) AnswerFault) → open_at old n ≡ Some c → Answers schema old new n b r → ToCall schema old new n c b r
+  pub to_call : (n : ℕ) (c : ValueView) (r : Result (Option Value) (Fault WholeCause)) → open_at old n ≡ Some c → Answers schema old new n b r → ToCall schema old new n c b r
   to_call n c r found answers = subst (AnswersTo schema old new n b r) found answers
 
-  pub value_told : (n : ℕ) (c : ValueView) (value : Value) (line : Vec ℕ Global) → n < 2 ^ 32 → open_at old n ≡ Some c → ReadsAnswer schema (result_type schema.decls c) b (Ok value) → LogsCame schema old new n b (Ok (Some value))
+  pub value_told : (n : ℕ) (c : ValueView) (value : Value) (line : Vec ℕ Global) → n < 2 ^ 32 → open_at old n ≡ Some c → ReadsBytes schema (result_type schema.decls c) b (Ok value) → LogsCame schema old new n b (Ok (Some value))
       → line.items ≡ numbered_line (codes "answer") n (line_text schema.decls (result_type schema.decls c) (view value)) → TellsPacket schema old new at (word n ++ b) (Ok line)
   value_told n c value line fits found whole logs is = λ past stands. (
     (came n b, Some (view value)),

@@ -9,11 +9,14 @@ use Rattle.tl_schema.specs.Schemas.{Declared}
 use Rattle.tl_types.specs.Offsets.{moved}
 use Rattle.tl_types.specs.Values.{ValueView}
 use Rattle.tl_types.specs.declared.value.TheConstants.{MAX_LEVELS}
-use Rattle.tl_calls.specs.Calling.{CallsView, StandsFor, ReadsAnswer, Sends, open_at}
+use Rattle.tl_calls.specs.Calling.{CallsView, StandsFor, Sends, open_at}
 use Rattle.tl_calls.specs.Events.{Log, open_in}
 use Rattle.tl_calls.specs.Results.{result_type}
-use Rattle.tl_calls.specs.declared.fault.AnswerFault.{AnswerFault}
-use Rattle.tl_calls.specs.declared.fault.AnswerFault.TheVariants as answer
+use Rattle.tl_base.specs.declared.fault.Fault.{Fault}
+use Rattle.tl_base.specs.declared.fault.Fault.TheVariants as fault
+use Rattle.tl_decode.specs.Wholes.{ReadsBytes}
+use Rattle.tl_decode.specs.declared.whole.WholeCause.{WholeCause}
+use Rattle.tl_decode.specs.declared.whole.WholeCause.TheVariants as whole
 use Rattle.tl_calls.specs.declared.fault.SendFault.{SendFault}
 use Rattle.tl_calls.specs.declared.fault.SendFault.TheVariants as send
 use Rattle.tl_calls.proofs.Stands.{found_open}
@@ -38,13 +41,13 @@ no_more p place n is inside = omega (arith, is, inside)
 part_within : (b x rest : List ℕ) → b ≡ x ++ rest → length x ≤ length b
 part_within b x rest split = omega (arith, ap length split, length-append x rest)
 
-pub offset_within : (schema : Declared) (T : Shape) (b : List ℕ) (fault : AnswerFault) → ReadsAnswer schema T b (Err fault) → offset_in fault ≤ length b
-offset_within schema T b (answer.Refused place cause) (p, r, is) = no_more p place (length b) is (refused_within schema MAX_LEVELS T b p cause r)
-offset_within schema T b (answer.Trailing place) (v, x, rest, split, some, spells, deep, is) = no_more (length x) place (length b) is (part_within b x rest split)
-offset_within schema T b answer.Memory u = omega arith
+pub offset_within : (schema : Declared) (T : Shape) (b : List ℕ) (fault : Fault WholeCause) → ReadsBytes schema T b (Err fault) → offset_in fault ≤ length b
+offset_within schema T b (fault.Refused (whole.Refused place cause)) (p, r, is) = no_more p place (length b) is (refused_within schema MAX_LEVELS T b p cause r)
+offset_within schema T b (fault.Refused (whole.Trailing place)) (v, x, rest, split, some, spells, deep, is) = no_more (length x) place (length b) is (part_within b x rest split)
+offset_within schema T b fault.Memory u = omega arith
 
 -- what is told of bytes after the first word of a packet has a place in the file
-pub place_fits : (schema : Declared) (T : Shape) (at : ℕ) (b : List ℕ) (fault : AnswerFault) → at + (8 + length b) < 2 ^ 64 → ReadsAnswer schema T b (Err fault) → at + (8 + offset_in fault) < 2 ^ 64
+pub place_fits : (schema : Declared) (T : Shape) (at : ℕ) (b : List ℕ) (fault : Fault WholeCause) → at + (8 + length b) < 2 ^ 64 → ReadsBytes schema T b (Err fault) → at + (8 + offset_in fault) < 2 ^ 64
 place_fits schema T at b fault few read = omega (arith, few, offset_within schema T b fault read)
 
 -- ---- bytes that are no value
@@ -57,14 +60,14 @@ module _ (schema : Declared) (T : Shape) (at : ℕ) (b : List ℕ) (few : at + (
   placed : (p place : ℕ) → p ≤ length b → place ≡ moved 0 p → at + (8 + place) ≡ at + (8 + p)
   placed p place inside is = ap (λ (n : ℕ). at + (8 + n)) (is ∙ as_moved p (length b) inside (omega (arith, few)))
 
-  pub unread_says : (fault : AnswerFault) (u : LoadError) → ReadsAnswer schema T b (Err fault) → TellsUnread at fault u → Refuses (SaysRefused NoWholeAt) u
-  unread_says (answer.Refused place cause) u (p, r, is) tells =
+  pub unread_says : (fault : Fault WholeCause) (u : LoadError) → ReadsBytes schema T b (Err fault) → TellsUnread at fault u → Refuses (SaysRefused NoWholeAt) u
+  unread_says (fault.Refused (whole.Refused place cause)) u (p, r, is) tells =
       refuses_as (λ told. told ≡ input_line (at + (8 + place)) (cause_text cause)) (SaysRefused NoWholeAt) u
       (λ line says. (at + (8 + place), cause_text cause, (p, refused cause r refl, placed p place (refused_within schema MAX_LEVELS T b p cause r) is), says)) tells
-  unread_says (answer.Trailing place) u (v, x, rest, split, some, spells, deep, is) tells =
+  unread_says (fault.Refused (whole.Trailing place)) u (v, x, rest, split, some, spells, deep, is) tells =
       refuses_as (λ told. told ≡ input_line (at + (8 + place)) (codes "Trailing")) (SaysRefused NoWholeAt) u
       (λ line says. (at + (8 + place), codes "Trailing", (length x, trailing v x rest split some (spells, deep) refl refl, placed (length x) place (part_within b x rest split) is), says)) tells
-  unread_says answer.Memory u read tells = memory_refuses (SaysRefused NoWholeAt) u tells
+  unread_says fault.Memory u read tells = memory_refuses (SaysRefused NoWholeAt) u tells
 
 -- ---- packets
 
@@ -73,12 +76,12 @@ abbrev pub SaysContent : Declared → CallsView → ℕ → List ℕ → List �
 SaysContent schema old at content line = (past : Log) → StandsFor schema old past → SaysRefused (ContentRefused schema past at content) line
 
 module _ (schema : Declared) (old : CallsView) (at : ℕ) (b : List ℕ) where
-  pub call_unread : at + (8 + length b) < 2 ^ 64 → (fault : AnswerFault) (u : LoadError) → ReadsAnswer schema type.call b (Err fault) → TellsUnread at fault u → Refuses (SaysContent schema old at (word 0 ++ b)) u
+  pub call_unread : at + (8 + length b) < 2 ^ 64 → (fault : Fault WholeCause) (u : LoadError) → ReadsBytes schema type.call b (Err fault) → TellsUnread at fault u → Refuses (SaysContent schema old at (word 0 ++ b)) u
   call_unread few fault u read tells =
       refuses_as (SaysRefused (NoWholeAt schema type.call at b few)) (SaysContent schema old at (word 0 ++ b)) u
       (λ line (place, why, (p, none, is), says) past stands. (place, why, no_call b p refl none is, says)) (unread_says schema type.call at b few fault u read tells)
 
-  pub answer_unread : at + (8 + length b) < 2 ^ 64 → (n : ℕ) (call : ValueView) → n < 2 ^ 32 → open_at old n ≡ Some call → (fault : AnswerFault) (u : LoadError) → ReadsAnswer schema (result_type schema.decls call) b (Err fault) → TellsUnread at fault u
+  pub answer_unread : at + (8 + length b) < 2 ^ 64 → (n : ℕ) (call : ValueView) → n < 2 ^ 32 → open_at old n ≡ Some call → (fault : Fault WholeCause) (u : LoadError) → ReadsBytes schema (result_type schema.decls call) b (Err fault) → TellsUnread at fault u
       → Refuses (SaysContent schema old at (word n ++ b)) u
   answer_unread few n call fits found fault u read tells =
       refuses_as (SaysRefused (NoWholeAt schema (result_type schema.decls call) at b few)) (SaysContent schema old at (word n ++ b)) u

@@ -1,8 +1,6 @@
 -- What the parts of `calls` answer. This project's own.
 use Rattle.std.specs.Prelude.{◌≡◌, ℕ, ◌<◌, ◌^◌, List, ◌∷◌, ◌++◌, Option, Some, None, Result, Ok, Err, Vec, codes, decimal}
 use Rattle.std.specs.declared.alloc.Global.{Global}
-use Rattle.tl_base.specs.declared.packet.PacketFault.{PacketFault}
-use Rattle.tl_base.specs.declared.packet.PacketFault.TheVariants as packet_fault
 use Rattle.tl_schema.specs.Types.{Shape}
 use Rattle.tl_schema.specs.Schemas.{Declared}
 use Rattle.tl_schema.specs.Seen.{shape}
@@ -37,16 +35,3 @@ SaysRefused Refused line = (place : ℕ) × (why : List ℕ) × Refused place wh
 abbrev pub TellsPacket : Declared → CallsView → CallsView → ℕ → List ℕ → Result (Vec ℕ Global) LoadError → Type 0
 TellsPacket schema old new at content (Ok line) = (past : Log) → StandsFor schema old past → (e : Logged) × Tells schema past content e line.items × StandsFor schema new (e ∷ past)
 TellsPacket schema old new at content (Err fault) = Refuses (λ line. (past : Log) → StandsFor schema old past → SaysRefused (ContentRefused schema past at content) line) fault
-
--- ---- bytes that are no packet
-
--- a refusal of the packet at this offset, for a cause with a number
-abbrev pub counted_line : ℕ → List ℕ → ℕ → List ℕ
-counted_line at cause n = input_line at (cause ++ (codes " " ++ decimal n))
-
--- what is at this offset is no packet; a length is a word
-abbrev pub TellsUnpacked : ℕ → PacketFault → LoadError → Type 0
-TellsUnpacked at (packet_fault.BadLength n) u = (n < 2 ^ 32) × RefusesAs (counted_line at (codes "BadLength") n) u
-TellsUnpacked at (packet_fault.Ended had) u = RefusesAs (counted_line at (codes "Ended") had) u
-TellsUnpacked at packet_fault.ReadFault u = u ≡ load_error.ReadFault
-TellsUnpacked at packet_fault.Memory u = u ≡ load_error.Memory

@@ -9,7 +9,7 @@ use Rattle.outside.specs.Answer.{refused, write_fault_line}
 use Rattle.outside.specs.declared.status.Status.{Status}
 use Rattle.outside.specs.declared.status.Status.TheVariants.{Done, WriteFault}
 use Rattle.outside.specs.Events.{Event, opened}
-use Rattle.outside.specs.Packets.{PacketView, TakesPacket}
+use Rattle.outside.specs.Packets.{PacketView, TakesPacket, packet_words}
 use Rattle.outside.specs.Packets as taken
 use Rattle.outside.specs.Pieces.{Writes}
 use Rattle.outside.specs.Pieces as piece
@@ -61,8 +61,7 @@ pub data OfPacket (schema : Declared) (s : SoFar) (content : List ℕ) (t : List
 abbrev pub after_packet : Declared → SoFar → PacketView → Step (Turn SoFar Status)
 after_packet schema s (taken.whole content) = OfPacket schema s content
 after_packet schema s taken.none = Last (Ends Done)
-after_packet schema s (taken.bad_length n) = Last (TellsRefusal s.at (codes "BadLength " ++ decimal n))
-after_packet schema s (taken.ended had) = Last (TellsRefusal s.at (codes "Ended " ++ decimal had))
+after_packet schema s (taken.wrong cause) = Last (TellsRefusal s.at (packet_words cause))
 after_packet schema s taken.broken = Last Unread
 
 -- a turn: a packet is taken of the input, and told

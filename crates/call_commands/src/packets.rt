@@ -12,7 +12,8 @@ use crate::words::first_word;
 use outside::LoadError;
 use schema_files::printed_line;
 use std::alloc::{AllocError, Global};
-use tl_calls::{Calls, result_of, whole_value};
+use tl_calls::{Calls, result_of};
+use tl_decode::decode_bytes_as;
 use tl_schema::{Schema, TypeRef};
 use tl_show::JsonPrinter;
 
@@ -62,7 +63,7 @@ fn tell_call(
     ensures fitting { AreOpenIn schema.now calls.new }
     ensures few { calls.new.next ≤ calls.old.next + 1 }
 {
-    let call = match whole_value(alloc, schema, &TypeRef::Call, bytes) {
+    let call = match decode_bytes_as(alloc, schema, &TypeRef::Call, bytes) {
         Ok(call) => call,
         Err(fault) => return Err(unread(alloc, at, fault)),
     };

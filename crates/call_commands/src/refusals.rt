@@ -1,39 +1,31 @@
 //! What is told of a packet that is refused.
 ghost use Rattle.std.specs.Prelude.{◌<◌, ◌+◌, ◌^◌};
 ghost use Rattle.outside.specs.Loading.{RefusesAs};
-ghost use Rattle.schema_files.specs.Lines.{cause_text, input_line};
-ghost use Rattle.call_commands.specs.Answering.{TellsUnpacked, counted_line};
+ghost use Rattle.schema_files.specs.Lines.{input_line};
+ghost use Rattle.outside.specs.Packets.{packet_words};
 ghost use Rattle.call_commands.specs.inner.Tellings.{TellsUnread, TellsUnsent, offset_in};
 
 use crate::lines::result_cause_name;
-use outside::LoadError;
-use schema_files::cause_text;
+use outside::{LoadError, packet_words};
+use schema_files::cause_error;
 use std::alloc::Global;
-use tl_base::PacketFault;
-use tl_calls::{AnswerFault, SendFault};
-use tl_types::Cause;
-
-// What is told of bytes that begin no spelling.
-fn unspelled(alloc: Global, place: u64, cause: Cause) -> LoadError
-    ensures { RefusesAs (input_line place (cause_text cause)) result }
-{
-    match cause_text(alloc, cause) {
-        Ok(why) => LoadError::placed(alloc, "input", place, why.as_str()),
-        Err(_) => LoadError::Memory,
-    }
-}
+use tl_base::{Fault, PacketCause};
+use tl_calls::SendFault;
+use tl_decode::WholeCause;
 
 /// What is told of bytes that are no value. They stand after a packet's length and its first word; the packet begins at this offset.
-pub fn unread(alloc: Global, at: u64, fault: AnswerFault) -> LoadError
+pub fn unread(alloc: Global, at: u64, fault: Fault<WholeCause>) -> LoadError
     requires { at + (8 + offset_in fault) < 2 ^ 64 }
     ensures { TellsUnread at fault result }
 {
     match fault {
-        AnswerFault::Refused { place, cause } => unspelled(alloc, at + (8 + place), cause),
-        AnswerFault::Trailing { place } => {
+        Fault::Refused(WholeCause::Refused { place, cause }) => {
+            cause_error(alloc, at + (8 + place), cause)
+        }
+        Fault::Refused(WholeCause::Trailing { place }) => {
             LoadError::placed(alloc, "input", at + (8 + place), "Trailing")
         }
-        AnswerFault::Memory => LoadError::Memory,
+        Fault::Memory => LoadError::Memory,
     }
 }
 
@@ -48,24 +40,12 @@ pub fn unsent(alloc: Global, at: u64, fault: SendFault) -> LoadError
     }
 }
 
-// What is told of a packet, for a cause with a number.
-fn counted(alloc: Global, at: u64, cause: &str, number: u32) -> LoadError
-    ensures { RefusesAs (counted_line at cause.now number) result }
+/// What is told of bytes at this offset that are no packet.
+pub fn unpacked(alloc: Global, at: u64, cause: PacketCause) -> LoadError
+    ensures { RefusesAs (input_line at (packet_words cause)) result }
 {
-    match format!(in alloc; "{cause} {number}") {
+    match packet_words(alloc, cause) {
         Ok(why) => LoadError::placed(alloc, "input", at, why.as_str()),
         Err(_) => LoadError::Memory,
-    }
-}
-
-/// What is told of bytes at this offset that are no packet.
-pub fn unpacked(alloc: Global, at: u64, fault: PacketFault) -> LoadError
-    ensures { TellsUnpacked at fault result }
-{
-    match fault {
-        PacketFault::BadLength { length } => counted(alloc, at, "BadLength", length),
-        PacketFault::Ended { had } => counted(alloc, at, "Ended", had),
-        PacketFault::ReadFault => LoadError::ReadFault,
-        PacketFault::Memory => LoadError::Memory,
     }
 }

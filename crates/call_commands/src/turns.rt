@@ -16,7 +16,7 @@ ghost use Rattle.call_commands.specs.inner.Turning.{EndsMade, GoesOn, IsNext, Tu
 use crate::{MAX_PACKET_END, tell_packet, unpacked};
 use outside::{Host, LoadError, Packet, Status, print_made, take_packet, tell, unread, write_out};
 use std::alloc::{AllocError, Global};
-use tl_base::{Out, PacketFault, Slot};
+use tl_base::{Out, Slot};
 use tl_calls::Calls;
 use tl_schema::Schema;
 use tl_show::JsonPrinter;
@@ -100,10 +100,7 @@ fn tell_next<H: Host>(
     match take_packet(alloc, host, Slot::Input)? {
         Packet::Whole(content) => tell_whole(alloc, host, schema, printer, calls, at, &content),
         Packet::None => Ok(Turn::Last(Status::Done)),
-        Packet::BadLength { length } => {
-            refuse(host, unpacked(alloc, at, PacketFault::BadLength { length }))
-        }
-        Packet::Ended { had } => refuse(host, unpacked(alloc, at, PacketFault::Ended { had })),
+        Packet::Wrong(cause) => refuse(host, unpacked(alloc, at, cause)),
         Packet::Broken => Ok(Turn::Last(unread(host))),
     }
 }

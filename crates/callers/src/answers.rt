@@ -7,7 +7,9 @@ ghost use Rattle.callers.specs.Answers.{IsAnswer};
 
 use std::alloc::Global;
 use thiserror::Error;
-use tl_calls::{AnswerFault, Calls, ResultFault, result_of};
+use tl_base::Fault;
+use tl_calls::{Calls, ResultFault, result_of};
+use tl_decode::WholeCause;
 use tl_schema::{Schema, TypeRef};
 use tl_types::Value;
 
@@ -17,7 +19,7 @@ pub enum TakeAnswerFault {
     #[error(transparent)]
     Result(#[from] ResultFault),
     #[error(transparent)]
-    Answer(#[from] AnswerFault),
+    Answer(#[from] Fault<WholeCause>),
 }
 
 /// What came as the answer of a call, which is closed: its type and its value. None where no open call has the number.

@@ -5,8 +5,9 @@ ghost use Rattle.callers.specs.Schemas.{IsSchemaText, IsValueOf};
 
 use std::alloc::Global;
 use thiserror::Error;
-use tl_calls::{AnswerFault, whole_value};
+use tl_base::Fault;
 use tl_combinators::{SyntaxFault, parse};
+use tl_decode::{WholeCause, decode_bytes_as};
 use tl_lexer::{LexFault, lex};
 use tl_schema::{CheckFault, Schema, TypeFault, check, type_of};
 use tl_types::Value;
@@ -28,7 +29,7 @@ pub enum ValueFault {
     #[error(transparent)]
     Type(#[from] TypeFault),
     #[error(transparent)]
-    Input(#[from] AnswerFault),
+    Input(#[from] Fault<WholeCause>),
 }
 
 /// The schema that a text declares.
@@ -51,6 +52,6 @@ pub fn value_of(
     ensures { IfOk result (λ v. IsValueOf schema.now name.now bytes.now (view v)) }
 {
     let of = type_of(alloc, schema, name)?;
-    let value = whole_value(alloc, schema, &of, bytes)?;
+    let value = decode_bytes_as(alloc, schema, &of, bytes)?;
     Ok(value)
 }

@@ -8,10 +8,9 @@ ghost use Rattle.tl_types.specs.Seen.{view};
 ghost use Rattle.tl_base.specs.declared.host.Out.TheVariants.{Output};
 ghost use Rattle.outside.specs.Answer.{done};
 ghost use Rattle.outside.specs.Jobs.{of_fault};
-ghost use Rattle.outside.specs.Loading.{RefusesAs};
 ghost use Rattle.outside.specs.Pieces.{Writes};
 ghost use Rattle.outside.specs.Printing.{Prints};
-ghost use Rattle.schema_files.specs.Lines.{cause_text, input_line, line_text};
+ghost use Rattle.schema_files.specs.Lines.{line_text};
 ghost use Rattle.codec_rooms.specs.Decode.{OfBytes, after_opening, decodes, verdict};
 ghost use Rattle.codec_rooms.specs.Typed.{OfPlan};
 ghost use Rattle.codec_rooms.specs.inner.Feeding.{MakesFault, PrintsVerdict};
@@ -21,23 +20,13 @@ use crate::feeding::read_value;
 use crate::output::{OutputLine, Piece};
 use crate::typed::{Purpose, follow_file};
 use outside::{Host, LoadError, Status, finish, print_made, tell, unread};
-use schema_files::{cause_text, plan_of, put_line};
+use schema_files::{cause_error, plan_of, put_line};
 use std::alloc::{AllocError, Global};
 use tl_base::Slot;
 use tl_decode::WholeFault;
 use tl_plan::Plan;
 use tl_schema::{Schema, TypeRef};
-use tl_types::{Cause, Value};
-
-// What is told of bytes that are no spelling.
-fn cause_error(alloc: Global, place: u64, cause: Cause) -> LoadError
-    ensures { RefusesAs (input_line place (cause_text cause)) result }
-{
-    match cause_text(alloc, cause) {
-        Ok(why) => LoadError::placed(alloc, "input", place, why.as_str()),
-        Err(_) => LoadError::Memory,
-    }
-}
+use tl_types::Value;
 
 // What is told of an input that is no value.
 fn fault_error(alloc: Global, fault: WholeFault) -> LoadError

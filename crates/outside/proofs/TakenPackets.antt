@@ -12,7 +12,8 @@ use Rattle.tl_base.specs.declared.host.Slot.TheVariants.{Link}
 use Rattle.tl_base.specs.declared.packet.TheConstants.{PACKET_BYTES}
 use Rattle.outside.specs.Events.{Event, HostState, took, ended, read_failed}
 use Rattle.outside.specs.Laws.{Happened, IsFailure, IsFromLink, Keeps}
-use Rattle.outside.specs.Packets.{PacketView, whole, none, bad_length, AfterLength, bad, good, TakesPacket, after_head, content_of, cut_off, packet_view}
+use Rattle.tl_base.specs.declared.packet.PacketCause.TheVariants.{BadLength, Ended}
+use Rattle.outside.specs.Packets.{PacketView, whole, none, wrong, AfterLength, bad, good, TakesPacket, after_head, content_of, cut_off, packet_view}
 use Rattle.outside.specs.Packets as packets
 use Rattle.outside.specs.Pieces.{TakenView, full, short, broken, Takes, joined, taken_view}
 use Rattle.outside.specs.Begun.{Did, WritesOnly}
@@ -58,7 +59,7 @@ module _ (slot : Slot) where
     | inl fits ↦
         let m : Begins (Then (Takes slot n) (λ content. Ends (content_of content))) [] = can_then _ _ (can_take slot n) (λ content. can_end (content_of content)) in
         record { rest = m.rest; answer = m.answer; whole = good fits m.whole }
-    | inr not ↦ record { rest = []; answer = bad_length n; whole = bad not (refl, refl) }
+    | inr not ↦ record { rest = []; answer = wrong (BadLength n); whole = bad not (refl, refl) }
   ]
 
   pub can_head : (head : TakenView) → Begins (after_head slot head) []
@@ -72,7 +73,7 @@ module _ (slot : Slot) where
 
   -- ---- what follows of a length
 
-  pub length_bad : (n : ℕ) (p : HostState) → (IsPacketLength n → ⊥) → Did (AfterLength slot n) p p (Some (bad_length n))
+  pub length_bad : (n : ℕ) (p : HostState) → (IsPacketLength n → ⊥) → Did (AfterLength slot n) p p (Some (wrong (BadLength n)))
   length_bad n p not = record { trace = []; grew = grew_none p; holds = bad not (refl, refl) }
 
   length_good : (n : ℕ) (p q : HostState) (answer : Option PacketView) → IsPacketLength n → Did (Then (Takes slot n) (λ content. Ends (content_of content))) p q answer → Did (AfterLength slot n) p q answer
@@ -105,17 +106,17 @@ module _ (slot : Slot) where
 
   cut_whole : (n : ℕ) (content : List ℕ) → whole content ≡ cut_off n → ⊥
   cut_whole zero content is = absurd (let no : whole content ≡ none = is in cc)
-  cut_whole (suc n) content is = absurd (let no : whole content ≡ packets.ended (suc n) = is in cc)
+  cut_whole (suc n) content is = absurd (let no : whole content ≡ wrong (Ended (suc n)) = is in cc)
 
   whole_content : (n : ℕ) (t : List Event) (v : TakenView) (content : List ℕ) → IsPacketLength n → Takes slot n t v → whole content ≡ content_of v → IsWhole content
   whole_content n t (full bytes) content fits h is =
       let same : bytes ≡ content = cc in
       (subst IsPacketLength (sym h.1 ∙ ap length same) fits, subst AreBytes same h.2)
-  whole_content n t (short bytes) content fits h is = absurd (let no : whole content ≡ packets.ended (4 + length bytes) = is in cc)
+  whole_content n t (short bytes) content fits h is = absurd (let no : whole content ≡ wrong (Ended (4 + length bytes)) = is in cc)
   whole_content n t broken content fits h is = absurd (let no : whole content ≡ packets.broken = is in cc)
 
   whole_length : (n : ℕ) (t : List Event) (content : List ℕ) → AfterLength slot n t (whole content) → IsWhole content
-  whole_length n t content (bad not h) = absurd (let no : whole content ≡ bad_length n = h.1 in cc)
+  whole_length n t content (bad not h) = absurd (let no : whole content ≡ wrong (BadLength n) = h.1 in cc)
   whole_length n t content (good fits h) = whole_content n h.first h.between content fits h.does h.goes.1
 
   whole_head : (head : TakenView) (t : List Event) (content : List ℕ) → after_head slot head t (whole content) → IsWhole content
@@ -137,15 +138,15 @@ module _ (slot : Slot) where
 
   cut_broken : (n : ℕ) → packets.broken ≡ cut_off n → ⊥
   cut_broken zero is = absurd (let no : packets.broken ≡ none = is in cc)
-  cut_broken (suc n) is = absurd (let no : packets.broken ≡ packets.ended (suc n) = is in cc)
+  cut_broken (suc n) is = absurd (let no : packets.broken ≡ wrong (Ended (suc n)) = is in cc)
 
   broken_content : (n : ℕ) (t u : List Event) (v : TakenView) → Takes slot n t v → packets.broken ≡ content_of v → Failed (t ++ u)
   broken_content n t u (full bytes) h is = absurd (let no : packets.broken ≡ whole bytes = is in cc)
-  broken_content n t u (short bytes) h is = absurd (let no : packets.broken ≡ packets.ended (4 + length bytes) = is in cc)
+  broken_content n t u (short bytes) h is = absurd (let no : packets.broken ≡ wrong (Ended (4 + length bytes)) = is in cc)
   broken_content n t u broken h is = happened_first (IsFailure (slot_kind slot)) t u (broken_read slot n t broken h refl)
 
   broken_length : (n : ℕ) (t : List Event) → AfterLength slot n t packets.broken → Failed t
-  broken_length n t (bad not h) = absurd (let no : packets.broken ≡ bad_length n = h.1 in cc)
+  broken_length n t (bad not h) = absurd (let no : packets.broken ≡ wrong (BadLength n) = h.1 in cc)
   broken_length n t (good fits h) = subst Failed (sym h.splits) (broken_content n h.first h.rest h.between h.does h.goes.1)
 
   broken_head : (head : TakenView) (t u : List Event) → Takes slot 4 t head → after_head slot head u packets.broken → Failed (t ++ u)
@@ -160,7 +161,7 @@ module _ (slot : Slot) where
 
   module _ (P : Event → Type 0) (each : (bytes : List ℕ) → P (took slot bytes)) (end : P (ended slot)) (fail : P (read_failed slot)) where
     keeps_length : (n : ℕ) → Keeps P (AfterLength slot n)
-    keeps_length n t p (bad not h) = keeps_end P (bad_length n) t p h
+    keeps_length n t p (bad not h) = keeps_end P (wrong (BadLength n)) t p h
     keeps_length n t p (good fits h) = keeps_then P (Takes slot n) (λ content. Ends (content_of content)) (keeps_take P slot n each end fail) (λ content. keeps_end P (content_of content)) t p h
 
     keeps_head : (head : TakenView) → Keeps P (after_head slot head)
@@ -186,8 +187,7 @@ head_came t broken h not = absurd (not refl)
 abbrev pub IsUnbroken : PacketView → Type 0
 IsUnbroken (whole content) = Unit {0}
 IsUnbroken none = Unit {0}
-IsUnbroken (bad_length n) = Unit {0}
-IsUnbroken (packets.ended had) = Unit {0}
+IsUnbroken (wrong cause) = Unit {0}
 IsUnbroken packets.broken = ⊥
 
 after_broken : (head : TakenView) (u : List Event) (v : PacketView) → IsUnbroken v → after_head Link head u v → head ≡ broken → ⊥

@@ -21,7 +21,7 @@ pub use laws::{
 };
 pub use lines::{decl_line, placed_line, unplaced_line};
 pub use mem_host::MemHost;
-pub use packets::{Packet, take_packet};
+pub use packets::{Packet, packet_words, take_packet};
 pub use pieces::{Taken, take_bytes, tell, write_out};
 pub use printing::{print, print_made, unread};
 pub use reading::read_file;

@@ -1,14 +1,14 @@
 //! Packets: a length in four bytes, and so many bytes.
-ghost use Rattle.std.specs.Prelude.{◌≡◌, ◌↔◌, IsTrue, length};
+ghost use Rattle.std.specs.Prelude.{◌≡◌, ◌↔◌, IfOk, IsTrue, length, string_bytes};
 ghost use Rattle.tl_base.specs.Packets.{IsPacketLength};
 ghost use Rattle.tl_numbers.specs.Numbers.{word_number};
-ghost use Rattle.outside.specs.Packets.{AfterLength, TakesPacket, cut_off, packet_by, packet_view};
+ghost use Rattle.outside.specs.Packets.{AfterLength, TakesPacket, cut_off, packet_by, packet_view, packet_words};
 ghost use Rattle.outside.specs.Begun.{Did};
 
 use crate::host::Host;
 use crate::pieces::{Taken, take_bytes};
 use std::alloc::{AllocError, Global};
-use tl_base::{PACKET_BYTES, Slot, u32_of};
+use tl_base::{PACKET_BYTES, PacketCause, Slot, u32_of};
 
 /// What was taken of a slot, up to the end of a packet.
 #[derive(Drop)]
@@ -17,10 +17,8 @@ pub enum Packet {
     Whole(Vec<u8>),
     /// The input ended before a packet's first byte.
     None,
-    /// No packet has so many bytes.
-    BadLength { length: u32 },
-    /// The input ended after so many bytes of the packet, its length among them.
-    Ended { had: u32 },
+    /// The next bytes are no packet.
+    Wrong(PacketCause),
     /// A read failed.
     Broken,
 }
@@ -47,7 +45,7 @@ fn cut_head(had: u32) -> Packet
     if had == 0 {
         Packet::None
     } else {
-        Packet::Ended { had }
+        Packet::Wrong(PacketCause::Ended { had })
     }
 }
 
@@ -61,14 +59,24 @@ fn take_content<H: Host>(
     ensures { Did (AfterLength slot length) (H.state host.old) (H.state host.new) (packet_by result) }
 {
     if !is_packet_length(length) {
-        return Ok(Packet::BadLength { length });
+        return Ok(Packet::Wrong(PacketCause::BadLength { length }));
     }
     match take_bytes(alloc, host, slot, length as usize)? {
         Taken::Full(content) => Ok(Packet::Whole(content)),
-        Taken::Short(content) => Ok(Packet::Ended {
+        Taken::Short(content) => Ok(Packet::Wrong(PacketCause::Ended {
             had: 4 + content.len() as u32,
-        }),
+        })),
         Taken::Broken => Ok(Packet::Broken),
+    }
+}
+
+/// Why the next bytes are no packet, as lines have it.
+pub fn packet_words(alloc: Global, cause: PacketCause) -> Result<String, AllocError>
+    ensures { IfOk result (λ words. string_bytes words ≡ packet_words cause) }
+{
+    match cause {
+        PacketCause::BadLength { length } => format!(in alloc; "BadLength {length}"),
+        PacketCause::Ended { had } => format!(in alloc; "Ended {had}"),
     }
 }
 

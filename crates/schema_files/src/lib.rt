@@ -10,7 +10,7 @@ mod type_plan;
 mod type_word;
 
 pub use json_input::{JSON_BYTES, fit_error, form_by, formed_value};
-pub use lines::cause_text;
+pub use lines::{cause_error, cause_text};
 pub use schema_text::{SCHEMA_BYTES, schema_of};
 pub use shown::{line_by, printed_line, put_line, value_line};
 pub use type_plan::plan_of;

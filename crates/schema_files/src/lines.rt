@@ -1,7 +1,9 @@
 //! The words of lines: names of causes, and their values.
 ghost use Rattle.std.specs.Prelude.{◌≡◌, ◌++◌, IfOk, OnOk, string_bytes};
-ghost use Rattle.schema_files.specs.Lines.{cause_text, check_name, form_cause_name, form_name, form_text, misfit_cause_name, misfit_text, path_text, steps_text, type_cause_name};
+ghost use Rattle.outside.specs.Loading.{RefusesAs};
+ghost use Rattle.schema_files.specs.Lines.{cause_text, check_name, form_cause_name, form_name, form_text, input_line, misfit_cause_name, misfit_text, path_text, steps_text, type_cause_name};
 
+use outside::LoadError;
 use std::alloc::{AllocError, Global};
 use tl_combinators::UnsupportedForm;
 use tl_schema::{CheckCause, TypeCause};
@@ -24,6 +26,16 @@ pub fn cause_text(alloc: Global, cause: Cause) -> Result<String, AllocError>
         Cause::LongString => String::from_str(alloc, "LongString"),
         Cause::LooseString => String::from_str(alloc, "LooseString"),
         Cause::BadPadding => String::from_str(alloc, "BadPadding"),
+    }
+}
+
+/// What is told of bytes that begin no spelling: the item at this offset of the input is none.
+pub fn cause_error(alloc: Global, place: u64, cause: Cause) -> LoadError
+    ensures { RefusesAs (input_line place (cause_text cause)) result }
+{
+    match cause_text(alloc, cause) {
+        Ok(why) => LoadError::placed(alloc, "input", place, why.as_str()),
+        Err(_) => LoadError::Memory,
     }
 }
 

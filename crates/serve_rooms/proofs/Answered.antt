@@ -15,7 +15,7 @@ use Rattle.box_wire.specs.Kinds.{calls}
 use Rattle.box_wire.proofs.CallLaws.{call_laws}
 use Rattle.outside.specs.Events.{Event, HostState, ended}
 use Rattle.outside.specs.Laws.{Happened, Throughout}
-use Rattle.outside.specs.Packets.{PacketView, whole, none, bad_length, broken, TakesPacket, packet_view}
+use Rattle.outside.specs.Packets.{PacketView, whole, none, wrong, broken, TakesPacket, packet_view}
 use Rattle.outside.specs.Packets as packets
 use Rattle.outside.specs.declared.packets.Packet.{Packet as TakenPacket}
 use Rattle.outside.specs.declared.packets.Packet.TheVariants as packet
@@ -93,8 +93,7 @@ module _ (p : ProfileView) where
   unkept_packet : (s : ServerState) (m : PacketView) (t : List Act) → after_packet p s m t unkept → Happened IsKeeperFault t
   unkept_packet s (whole bytes) t h = unkept_bytes s bytes t h
   unkept_packet s none t h = absurd (let no : unkept ≡ has_ended s = h.1 in cc)
-  unkept_packet s (bad_length n) t h = absurd (let no : unkept ≡ fails s _ = h.1 in cc)
-  unkept_packet s (packets.ended had) t h = absurd (let no : unkept ≡ fails s _ = h.1 in cc)
+  unkept_packet s (wrong cause) t h = absurd (let no : unkept ≡ fails s _ = h.1 in cc)
   unkept_packet s broken t h = absurd (let no : unkept ≡ fails s LinkFault = h.1 in cc)
 
   unkept_next : (s : ServerState) (t : List Act) → AnswersNext p s t unkept → Happened IsKeeperFault t
@@ -137,8 +136,7 @@ module _ (p : ProfileView) where
       can_packet : (t : List Event) (m : PacketView) → TakesPacket Link t m → BeginsKept (after_packet p s m) []
       can_packet t (whole bytes) h = can_answer bytes (whole_packet Link t bytes h).1
       can_packet t none h = can_end _
-      can_packet t (bad_length n) h = can_end _
-      can_packet t (packets.ended had) h = can_end _
+      can_packet t (wrong cause) h = can_end _
       can_packet t broken h = can_end _
 
       pub can_follow : (t : List Act) (m : PacketView) → Hosted (TakesPacket Link) t m → BeginsKept (after_packet p s m) []
@@ -151,8 +149,7 @@ module _ (p : ProfileView) where
     no_packet_so : (x : TakenPacket) (q : KeptState) → ((bytes : Vec ℕ Global) → x ≡ packet.Whole bytes → ⊥) → DidKept (after_packet p s (packet_view x)) q q (Some (answered_as s (outcome_at (packet_view x))))
     no_packet_so (packet.Whole bytes) q not = absurd (not bytes refl)
     no_packet_so packet.None q not = did_nothing q (has_ended s)
-    no_packet_so (packet.BadLength n) q not = did_nothing q (fails s _)
-    no_packet_so (packet.Ended had) q not = did_nothing q (fails s _)
+    no_packet_so (packet.Wrong cause) q not = did_nothing q (fails s _)
     no_packet_so packet.Broken q not = did_nothing q (fails s LinkFault)
 
     pub none_came : (x : TakenPacket) (q : KeptState) (o : Outcome) → ((bytes : Vec ℕ Global) → x ≡ packet.Whole bytes → ⊥) → o ≡ outcome_at (packet_view x) → DidKept (after_packet p s (packet_view x)) q q (Some (answered_as s o))

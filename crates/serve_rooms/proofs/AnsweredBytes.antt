@@ -4,7 +4,7 @@ use Rattle.std.proofs.lemmas.Bool.{ltb-true, ltb-false}
 use Rattle.tl_base.specs.Outside.{left_of}
 use Rattle.tl_base.specs.declared.host.Out.TheVariants as outs
 use Rattle.tl_base.specs.declared.host.Slot.TheVariants.{Link}
-use Rattle.update_sessions.specs.declared.fault.PacketCause.TheVariants.{BadLength, Ended}
+use Rattle.tl_base.specs.declared.packet.PacketCause.TheVariants.{BadLength, Ended}
 use Rattle.box_events.specs.declared.replies.Frame.{Frame}
 use Rattle.box_events.specs.declared.requests.Numbered.{Numbered}
 use Rattle.box_server.specs.Servers.{ServerState}
@@ -224,13 +224,13 @@ module _ (p : ProfileView) where
       of_packet : (v : PacketView) → TakesPacket Link t v → after_packet p s v u r → StepOver s r (added_in u) a b
       of_packet (whole bytes) takes h = of_bytes bytes takes h
       of_packet packets.none takes h = still s r (has_ended s) u a m b h.0 h.1 g (link_ended s a m (taking_sent t packets.none a m takes f) (packet_left Link t packets.none a m takes f))
-      of_packet (packets.bad_length n) takes h =
-          let left = packet_left Link t (packets.bad_length n) a m takes f in
-          still s r (fails s (session.Packet (BadLength n))) u a m b h.0 h.1 g (failed s a m (taking_sent t (packets.bad_length n) a m takes f) (session.Packet (BadLength n)) (given_by m, left.2, left.1))
-      of_packet (packets.ended had) takes h =
-          let left = packet_left Link t (packets.ended had) a m takes f in
+      of_packet (packets.wrong (BadLength n)) takes h =
+          let left = packet_left Link t (packets.wrong (BadLength n)) a m takes f in
+          still s r (fails s (session.Packet (BadLength n))) u a m b h.0 h.1 g (failed s a m (taking_sent t (packets.wrong (BadLength n)) a m takes f) (session.Packet (BadLength n)) (given_by m, left.2, left.1))
+      of_packet (packets.wrong (Ended had)) takes h =
+          let left = packet_left Link t (packets.wrong (Ended had)) a m takes f in
           let many : length (given_by a) ≡ had = sym left.1 in
-          still s r (fails s (session.Packet (Ended had))) u a m b h.0 h.1 g (failed s a m (taking_sent t (packets.ended had) a m takes f) (session.Packet (Ended had)) (many, omega (arith, left.0, many), left.2))
+          still s r (fails s (session.Packet (Ended had))) u a m b h.0 h.1 g (failed s a m (taking_sent t (packets.wrong (Ended had)) a m takes f) (session.Packet (Ended had)) (many, omega (arith, left.0, many), left.2))
       of_packet packets.broken takes h = still s r (fails s session.LinkFault) u a m b h.0 h.1 g (failed s a m (taking_sent t packets.broken a m takes f) session.LinkFault tt)
 
     next_over : (s : ServerState) (r : Answered) (t : List Act) (a b : Outside) → AnswersNext p s t r → Fits (events_in t) a b → StepOver s r (added_in t) a b

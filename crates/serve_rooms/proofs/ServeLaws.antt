@@ -4,7 +4,7 @@ use Rattle.std.proofs.lemmas.List.{append_assoc}
 use Rattle.tl_base.specs.declared.counts.Kind.TheVariants as kinds
 use Rattle.tl_base.specs.declared.host.Slot.TheVariants as slots
 use Rattle.tl_base.specs.declared.host.Out.TheVariants as outs
-use Rattle.update_sessions.specs.declared.fault.PacketCause.TheVariants.{BadLength, Ended}
+use Rattle.tl_base.specs.declared.packet.PacketCause.TheVariants.{BadLength, Ended}
 use Rattle.tl_schema.specs.Schemas.{Declared}
 use Rattle.box_events.specs.declared.requests.Numbered.{Numbered}
 use Rattle.box_server.specs.Servers.{ServerState, new_server, dated_at}
@@ -221,10 +221,8 @@ module _ (p : ProfileView) where
   packet_cause : (s : ServerState) (m : PacketView) (r : Answered) (t u : List Act) → Hosted (TakesPacket slots.Link) t m → after_packet p s m u r → IsAnswered r (events_in (t ++ u))
   packet_cause s (whole bytes) r t u taken h = bytes_cause s bytes r t u (came_at (whole bytes) t taken tt) h
   packet_cause s packets.none r t u taken h = subst (λ (a : Answered). IsAnswered a (events_in (t ++ u))) (sym h.1) tt
-  packet_cause s (packets.bad_length n) r t u taken h =
-      subst (λ (a : Answered). IsAnswered a (events_in (t ++ u))) (sym h.1) (has_line (session.Packet (BadLength n)) (events_in (t ++ u)) _ refl (came_first t u (came_at (packets.bad_length n) t taken tt)))
-  packet_cause s (packets.ended had) r t u taken h =
-      subst (λ (a : Answered). IsAnswered a (events_in (t ++ u))) (sym h.1) (has_line (session.Packet (Ended had)) (events_in (t ++ u)) _ refl (came_first t u (came_at (packets.ended had) t taken tt)))
+  packet_cause s (packets.wrong cause) r t u taken h =
+      subst (λ (a : Answered). IsAnswered a (events_in (t ++ u))) (sym h.1) (has_line (session.Packet cause) (events_in (t ++ u)) _ refl (came_first t u (came_at (packets.wrong cause) t taken tt)))
   packet_cause s packets.broken r t u (events, is, taken) h =
       let Failed = Happened (IsFailure kinds.Links) in
       subst (λ (a : Answered). IsAnswered a (events_in (t ++ u))) (sym h.1) (at_first Failed (happened_first (IsFailure kinds.Links)) t u (subst Failed (sym (host_events t events is)) (broken_packet slots.Link events taken)))

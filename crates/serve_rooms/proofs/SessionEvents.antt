@@ -67,8 +67,7 @@ module _ (P : Event → Type 0) where
     keeps_taken : (s : ServerState) (v : PacketView) → Keeps IsHosted (after_packet p s v)
     keeps_taken s (whole bytes) = keeps_bytes s bytes
     keeps_taken s packets.none = keeps_end IsHosted _
-    keeps_taken s (packets.bad_length n) = keeps_end IsHosted _
-    keeps_taken s (packets.ended had) = keeps_end IsHosted _
+    keeps_taken s (packets.wrong cause) = keeps_end IsHosted _
     keeps_taken s packets.broken = keeps_end IsHosted _
 
     keeps_next : (s : ServerState) → Keeps IsHosted (AnswersNext p s)

@@ -138,8 +138,7 @@ module _ (schema_name address : List ℕ) where
       keeps_taken : (s : ServerState) (m : PacketView) → Keeps Q (after_packet p s m)
       keeps_taken s (whole bytes) = keeps_bytes s bytes
       keeps_taken s packets.none = keeps_end Q _
-      keeps_taken s (packets.bad_length n) = keeps_end Q _
-      keeps_taken s (packets.ended had) = keeps_end Q _
+      keeps_taken s (packets.wrong cause) = keeps_end Q _
       keeps_taken s packets.broken = keeps_end Q _
 
       keeps_next : (s : ServerState) → Keeps Q (AnswersNext p s)

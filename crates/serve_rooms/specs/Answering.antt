@@ -2,7 +2,7 @@
 -- the next packet is taken. This project's own.
 use Rattle.std.specs.Prelude.{◌≡◌, ℕ, ◌+◌, ltb, List, [], ◌∷◌, Bool, true, false, Result, Ok, Err}
 use Rattle.tl_base.specs.declared.host.Slot.TheVariants.{Link}
-use Rattle.update_sessions.specs.declared.fault.PacketCause.TheVariants.{BadLength, Ended}
+use Rattle.tl_base.specs.declared.packet.PacketCause.TheVariants.{BadLength, Ended}
 use Rattle.box_events.specs.declared.requests.Numbered.{Numbered}
 use Rattle.box_server.specs.Servers.{ServerState}
 use Rattle.box_server.specs.declared.entry.Entry.{Entry}
@@ -10,7 +10,7 @@ use Rattle.wire_profile.specs.declared.wire_fault.WireFault.{WireFault}
 use Rattle.wire_profile.specs.Indexes.{ProfileView}
 use Rattle.box_wire.specs.Kinds.{calls}
 use Rattle.box_wire.specs.Framing.{WireRefused}
-use Rattle.outside.specs.Packets.{PacketView, whole, none, bad_length, ended, broken, TakesPacket}
+use Rattle.outside.specs.Packets.{PacketView, whole, none, wrong, broken, TakesPacket}
 use Rattle.outside.specs.Steps.{StepOf, Turn, again, leave, Calls, Ends, Then, Loops}
 use Rattle.update_sessions.specs.declared.fault.SessionFault.{SessionFault}
 use Rattle.update_sessions.specs.declared.fault.SessionFault.TheVariants.{Packet, Wire, TooManyFrames, LinkFault}
@@ -59,8 +59,7 @@ pub data AnswersBytes (p : ProfileView) (s : ServerState) (bytes : List ℕ) (t 
 abbrev pub after_packet : ProfileView → ServerState → PacketView → StepOf Act Answered
 after_packet p s (whole bytes) = AnswersBytes p s bytes
 after_packet p s none = Ends (has_ended s)
-after_packet p s (bad_length n) = Ends (fails s (Packet (BadLength n)))
-after_packet p s (ended had) = Ends (fails s (Packet (Ended had)))
+after_packet p s (wrong cause) = Ends (fails s (Packet cause))
 after_packet p s broken = Ends (fails s LinkFault)
 
 abbrev pub AnswersNext : ProfileView → ServerState → StepOf Act Answered

@@ -16,7 +16,7 @@ use box_server::{KeepFault, Keeper, Stored};
 use outside::{Host, Packet, take_packet, write_out};
 use std::alloc::Global;
 use tl_base::{Bytes, Failed, Out, Slot};
-use update_sessions::{MAX_FRAMES, PacketCause, SessionFault, StoreSession, answer_packet};
+use update_sessions::{MAX_FRAMES, SessionFault, StoreSession, answer_packet};
 use wire_profile::Profile;
 
 /// What became of the next packet.
@@ -37,11 +37,8 @@ fn no_packet(packet: &Packet) -> Outcome
     match packet {
         Packet::Whole(_) => Outcome::Answered,
         Packet::None => Outcome::Ended,
-        Packet::BadLength { length } => Outcome::Failed {
-            fault: SessionFault::Packet(PacketCause::BadLength { length: *length }),
-        },
-        Packet::Ended { had } => Outcome::Failed {
-            fault: SessionFault::Packet(PacketCause::Ended { had: *had }),
+        Packet::Wrong(cause) => Outcome::Failed {
+            fault: SessionFault::Packet(*cause),
         },
         Packet::Broken => Outcome::Failed {
             fault: SessionFault::LinkFault,

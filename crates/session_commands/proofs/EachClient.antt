@@ -7,7 +7,7 @@ use Rattle.tl_numbers.specs.Bytes.{AreBytes}
 use Rattle.tl_base.specs.Outside.{IsFile}
 use Rattle.tl_base.specs.Contents.{Files, HoldBytes}
 use Rattle.tl_base.specs.Packets.{packet}
-use Rattle.update_sessions.specs.declared.fault.PacketCause.{PacketCause}
+use Rattle.tl_base.specs.declared.packet.PacketCause.{PacketCause}
 use Rattle.tl_types.proofs.Numbers.{begins_word}
 use Rattle.box_events.specs.declared.replies.Frame.{Frame}
 use Rattle.box_events.specs.declared.requests.Numbered.{Numbered}
@@ -50,7 +50,7 @@ use Rattle.outside.specs.Answer.{Answer, refused}
 use Rattle.outside.proofs.SameFiles.{file_bytes}
 use Rattle.fault_lines.proofs.Profiled.{each_profiled}
 use Rattle.session_commands.specs.declared.state.TheConstants.{MAX_STATE_BYTES}
-use Rattle.session_commands.specs.Lines.{packet_line}
+use Rattle.fault_lines.specs.Packets.{packet_line}
 use Rattle.session_commands.specs.Post.{IsWordLong}
 use Rattle.session_commands.specs.SessionEnds.{session_line, IsShort}
 use Rattle.session_commands.specs.Client.{ClientsAreAnswered, HasClient, HasSaved, OfSession, OfState, OfStateFile, TellsNoClient, begins, failed, loads, no_client, no_saved, not_loaded, recovered, too_long, too_many, watches}

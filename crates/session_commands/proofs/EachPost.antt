@@ -12,8 +12,8 @@ use Rattle.tl_base.specs.Outside.{IsFile}
 use Rattle.tl_base.specs.Contents.{Files, HoldBytes}
 use Rattle.tl_numbers.specs.Numbers.{word}
 use Rattle.tl_base.specs.Packets.{IsPacketLength, packet}
-use Rattle.update_sessions.specs.declared.fault.PacketCause.{PacketCause}
-use Rattle.update_sessions.specs.declared.fault.PacketCause.TheVariants as packets
+use Rattle.tl_base.specs.declared.packet.PacketCause.{PacketCause}
+use Rattle.tl_base.specs.declared.packet.PacketCause.TheVariants as packets
 use Rattle.tl_schema.specs.Types.{call}
 use Rattle.tl_schema.specs.Formed.{IsFormed}
 use Rattle.tl_types.specs.Values.{ValueView, depth}
@@ -49,7 +49,7 @@ use Rattle.schema_files.specs.Causes.{JsonCause, TooLong, NoJson, Unformed, Misf
 use Rattle.schema_files.specs.JsonInput.{IsJson, JsonRefused}
 use Rattle.schema_files.specs.declared.json_input.TheConstants.{JSON_BYTES}
 use Rattle.fault_lines.proofs.Profiled.{each_profiled}
-use Rattle.session_commands.specs.Lines.{packet_line}
+use Rattle.fault_lines.specs.Packets.{packet_line}
 use Rattle.session_commands.specs.Post.{Outcome, IsReplyTo, OfBody, no_frame, another, reply, OfLink, no_packet, packet_of, IsWordLong, OfCall, no_call, long_call, sent, OfJson, no_json, json_of, OfInput, PostsAreAnswered}
 use Rattle.session_commands.proofs.JsonBytes.{read_holds}
 use Rattle.session_commands.proofs.ReadBytes.{read_value_holds}

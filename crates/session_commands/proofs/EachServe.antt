@@ -5,7 +5,7 @@ use Rattle.std.specs.FinMap as map
 use Rattle.std.specs.List.{All, AllByRecursion}
 use Rattle.tl_numbers.specs.Bytes.{AreBytes, ListsOfBytes}
 use Rattle.tl_base.specs.Packets.{packet}
-use Rattle.update_sessions.specs.declared.fault.PacketCause.{PacketCause}
+use Rattle.tl_base.specs.declared.packet.PacketCause.{PacketCause}
 use Rattle.tl_types.proofs.Numbers.{begins_word}
 use Rattle.box_events.specs.declared.positions.Receipt.{Receipt}
 use Rattle.box_events.specs.declared.replies.Frame.{Frame}
@@ -50,7 +50,7 @@ use Rattle.update_sessions.specs.Receiving.{RefusedPacket}
 use Rattle.update_sessions.specs.Serving.{after_request, posted_frames, sent_for, server_side}
 use Rattle.fault_lines.specs.Messages.{wire_line}
 use Rattle.fault_lines.proofs.Profiled.{each_profiled}
-use Rattle.session_commands.specs.Lines.{packet_line}
+use Rattle.fault_lines.specs.Packets.{packet_line}
 use Rattle.session_commands.specs.Post.{IsWordLong}
 use Rattle.session_commands.specs.SessionEnds.{many_frames_line}
 use Rattle.session_commands.specs.Serve.{SessionEnd, served, peer_fault, IsWhole, OfSessions, ServesAreAnswered, Session, Sessions, Total, no_sessions, total_answer, with_session}

@@ -2,8 +2,8 @@
 use Rattle.std.proofs.Common.{◌≡◌, ℕ, ◌<◌, ◌≤◌, ◌^◌, List, [], ◌∷◌, ◌++◌, append_assoc, length, length-append, get_or, drop, refl, sym, ap, ap₂, ◌∙◌, subst, arith, inl, inr}
 use Rattle.tl_numbers.specs.Numbers.{word, word_number}
 use Rattle.tl_base.specs.Packets.{IsPacketLength, packet, IsCutShort}
-use Rattle.update_sessions.specs.declared.fault.PacketCause.{PacketCause}
-use Rattle.update_sessions.specs.declared.fault.PacketCause.TheVariants as fault
+use Rattle.tl_base.specs.declared.packet.PacketCause.{PacketCause}
+use Rattle.tl_base.specs.declared.packet.PacketCause.TheVariants as fault
 use Rattle.tl_numbers.proofs.Spelled.{words}
 use Rattle.update_sessions.specs.Heard.{NoFrame}
 use Rattle.update_sessions.specs.Packed.{NoPacket}

@@ -20,7 +20,7 @@ use Rattle.box_wire.proofs.FrameLaws.{frame_formed, frame_laws}
 use Rattle.update_sessions.specs.Packed.{MeansFrame}
 use Rattle.schema_files.specs.Lines.{line_text}
 use Rattle.fault_lines.specs.Messages.{wire_line}
-use Rattle.session_commands.specs.Lines.{packet_line}
+use Rattle.fault_lines.specs.Packets.{packet_line}
 use Rattle.session_commands.specs.Post.{Outcome, shows, peer, IsReplyTo, OfBody, no_frame, another, reply, OfLink, no_packet, packet_of}
 use Rattle.session_commands.proofs.OnePacket.{never_packet, one_packet_fault, same_packet}
 

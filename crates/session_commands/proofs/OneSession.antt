@@ -1,7 +1,7 @@
 -- What a client's session does over bytes is one, and no other may ask for more.
 use Rattle.std.proofs.Common.{◌≡◌, inl, inr, ℕ, ◌<◌, ◌≤◌, List, [], ◌∷◌, ◌++◌, length, true, false, true≢false, Some, None, Result, Ok, Err, refl, sym, ap, ap₂, ◌∙◌, subst, arith}
 use Rattle.tl_numbers.specs.Bytes.{AreBytes}
-use Rattle.update_sessions.specs.declared.fault.PacketCause.{PacketCause}
+use Rattle.tl_base.specs.declared.packet.PacketCause.{PacketCause}
 use Rattle.tl_encode.proofs.OneSpelling.{one_spelling}
 use Rattle.box_events.specs.declared.replies.Frame.{Frame}
 use Rattle.box_events.specs.declared.requests.Numbered.{Numbered}

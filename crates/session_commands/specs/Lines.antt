@@ -1,14 +1,6 @@
 -- The lines of what the other end of a link sends. This project's own.
 use Rattle.std.specs.Prelude.{ℕ, List, ◌++◌, codes, decimal}
-use Rattle.update_sessions.specs.declared.fault.PacketCause.{PacketCause}
-use Rattle.update_sessions.specs.declared.fault.PacketCause.TheVariants as packet
 use Rattle.outside.specs.Answer.{unplaced_line}
-use Rattle.fault_lines.specs.Packets.{length_line, ended_line}
-
--- of bytes that begin with no packet
-abbrev pub packet_line : PacketCause → List ℕ
-packet_line (packet.BadLength length) = length_line length
-packet_line (packet.Ended had) = ended_line had
 
 -- of a frame that is no reply to the call that was sent
 abbrev pub wrong_reply_line : List ℕ

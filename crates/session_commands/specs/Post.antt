@@ -5,8 +5,8 @@ use Rattle.tl_numbers.specs.Bytes.{AreBytes}
 use Rattle.tl_base.specs.Contents.{Files, HoldBytes}
 use Rattle.tl_base.specs.Outside.{View, HasFile, IsFile}
 use Rattle.tl_base.specs.Packets.{IsPacketLength, packet}
-use Rattle.update_sessions.specs.declared.fault.PacketCause.{PacketCause}
-use Rattle.update_sessions.specs.declared.fault.PacketCause.TheVariants as packet_fault
+use Rattle.tl_base.specs.declared.packet.PacketCause.{PacketCause}
+use Rattle.tl_base.specs.declared.packet.PacketCause.TheVariants as packet_fault
 use Rattle.tl_schema.specs.Types.{call}
 use Rattle.tl_types.specs.Values.{ValueView}
 use Rattle.tl_types.specs.Spelling.{Spells}
@@ -30,7 +30,8 @@ use Rattle.schema_files.specs.Lines.{json_line, line_text}
 use Rattle.fault_lines.specs.Messages.{wire_line}
 use Rattle.fault_lines.specs.Profiled.{OfProfileFile, HasProfile}
 use Rattle.session_commands.specs.Linked.{over_link, linking_job, next_link, KeepsFiles, LeavesLinks}
-use Rattle.session_commands.specs.Lines.{packet_line, wrong_reply_line, long_call_line}
+use Rattle.fault_lines.specs.Packets.{packet_line}
+use Rattle.session_commands.specs.Lines.{wrong_reply_line, long_call_line}
 
 -- ---- what comes back
 

@@ -7,7 +7,7 @@ use Rattle.outside.specs.declared.stop.Stop.{Stop}
 use Rattle.outside.specs.declared.stop.Stop.TheVariants as stop
 use Rattle.fault_lines.specs.Answers.{answer_line}
 use Rattle.fault_lines.specs.Messages.{wire_line}
-use Rattle.session_commands.specs.Lines.{packet_line}
+use Rattle.fault_lines.specs.Packets.{packet_line}
 use Rattle.session_commands.specs.Post.{IsWordLong}
 
 abbrev pub many_frames_line : List ℕ

@@ -1,13 +1,14 @@
 //! How a session that fails ends a run.
 ghost use Rattle.session_commands.specs.Post.{IsWordLong};
 ghost use Rattle.session_commands.specs.SessionEnds.{IsShort, PeerWith, TellsSession, many_frames_line};
-ghost use Rattle.session_commands.specs.Lines.{packet_line};
+ghost use Rattle.fault_lines.specs.Packets.{packet_line};
 ghost use Rattle.outside.specs.Loading.{PeerAs};
 
 use fault_lines::{answer_line, packet_stop, wire_line};
 use outside::{Stop, unplaced_line};
 use std::alloc::Global;
-use update_sessions::{PacketCause, SessionFault};
+use tl_base::PacketCause;
+use update_sessions::SessionFault;
 
 /// The stop of a run whose session failed: the other end's fault, or the link's.
 pub fn session_stop(alloc: Global, fault: SessionFault) -> Stop

@@ -3,8 +3,8 @@ use Rattle.std.proofs.Common.{◌≡◌, inl, codes, ltb, ℕ, ◌+◌, ℤ, Lis
 use Rattle.tl_base.specs.declared.counts.Kind.TheVariants as kinds
 use Rattle.tl_base.specs.declared.host.Slot.TheVariants as slots
 use Rattle.tl_base.specs.declared.host.Out.TheVariants as outs
-use Rattle.update_sessions.specs.declared.fault.PacketCause.{PacketCause}
-use Rattle.update_sessions.specs.declared.fault.PacketCause.TheVariants.{BadLength, Ended}
+use Rattle.tl_base.specs.declared.packet.PacketCause.{PacketCause}
+use Rattle.tl_base.specs.declared.packet.PacketCause.TheVariants.{BadLength, Ended}
 use Rattle.box_events.specs.declared.requests.Numbered.{Numbered}
 use Rattle.box_client.specs.States.{ClientState}
 use Rattle.box_client.specs.Asking.{ticks, wakes, is_one_asking}
@@ -163,8 +163,7 @@ module _ (p : ProfileView) (fault : SessionFault) where
   packet_ended : (c : ClientState) (m : PacketView) (t u : List Event) → TakesPacket slots.Link t m → after_packet p c m u (Err fault) → IsEnded fault (t ++ u)
   packet_ended c (whole bytes) t u taken h = bytes_ended c bytes t u (packet_came t (whole bytes) taken tt) h
   packet_ended c packets.none t u taken h = cut_ended (Ended 0) _ packets.none t u refl tt taken h.1
-  packet_ended c (packets.bad_length n) t u taken h = cut_ended (BadLength n) _ (packets.bad_length n) t u refl tt taken h.1
-  packet_ended c (packets.ended had) t u taken h = cut_ended (Ended had) _ (packets.ended had) t u refl tt taken h.1
+  packet_ended c (packets.wrong cause) t u taken h = cut_ended cause _ (packets.wrong cause) t u refl tt taken h.1
   packet_ended c packets.broken t u taken h = ended_as fault session.LinkFault (t ++ u) (same_fault fault _ h.1) (happened_first (IsFailure kinds.Links) t u (broken_packet slots.Link t taken))
 
   next_ended : (c : ClientState) (t : List Event) → HearsNext p c t (Err fault) → IsEnded fault t
@@ -190,8 +189,7 @@ module _ (p : ProfileView) where
   packet_heard : (c d : ClientState) (m : PacketView) (t u : List Event) → TakesPacket slots.Link t m → after_packet p c m u (Ok d) → Happened IsFromLink (t ++ u)
   packet_heard c d (whole bytes) t u taken h = happened_first IsFromLink t u (packet_came t (whole bytes) taken tt)
   packet_heard c d packets.none t u taken h = absurd (let no : ◌≡◌ {A = Outcome} (Ok d) (Err (session.Packet (Ended 0))) = h.1 in cc)
-  packet_heard c d (packets.bad_length n) t u taken h = absurd (let no : ◌≡◌ {A = Outcome} (Ok d) (Err (session.Packet (BadLength n))) = h.1 in cc)
-  packet_heard c d (packets.ended had) t u taken h = absurd (let no : ◌≡◌ {A = Outcome} (Ok d) (Err (session.Packet (Ended had))) = h.1 in cc)
+  packet_heard c d (packets.wrong cause) t u taken h = absurd (let no : ◌≡◌ {A = Outcome} (Ok d) (Err (session.Packet cause)) = h.1 in cc)
   packet_heard c d packets.broken t u taken h = absurd (let no : ◌≡◌ {A = Outcome} (Ok d) (Err session.LinkFault) = h.1 in cc)
 
   turned_heard : (c : ClientState) (n : ℕ) (s : Heard) (r : Outcome) (t u : List Event) → HearsNext p c t r → again s ≡ turn_of n r → Happened IsFromLink (t ++ u)

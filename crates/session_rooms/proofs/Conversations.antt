@@ -3,7 +3,7 @@ use Rattle.std.proofs.Common.{◌≡◌, inl, inr, ℕ, ◌+◌, ◌<◌, ◌≤
 use Rattle.std.proofs.lemmas.Bool.Decides.{nat_tests}
 use Rattle.tl_numbers.specs.Bytes.{AreBytes}
 use Rattle.tl_base.specs.declared.host.Slot.TheVariants.{Link}
-use Rattle.update_sessions.specs.declared.fault.PacketCause.TheVariants.{Ended}
+use Rattle.tl_base.specs.declared.packet.PacketCause.TheVariants.{Ended}
 use Rattle.box_events.specs.declared.replies.Frame.{Frame}
 use Rattle.box_events.specs.declared.requests.Numbered.{Numbered}
 use Rattle.box_client.specs.States.{ClientState}
@@ -167,8 +167,7 @@ module _ (p : ProfileView) where
     pub can_follow : (t : List Event) (m : PacketView) → TakesPacket Link t m → Begins (after_packet p c m) []
     can_follow t (whole bytes) h = can_hear good c asking bytes (whole_packet Link t bytes h).1
     can_follow t packets.none h = can_end _
-    can_follow t (packets.bad_length n) h = can_end _
-    can_follow t (packets.ended had) h = can_end _
+    can_follow t (packets.wrong cause) h = can_end _
     can_follow t packets.broken h = can_end _
 
   module _ (c : ClientState) where

@@ -35,8 +35,7 @@ module _ (P : Event → Type 0) (each : (bytes : List ℕ) → P (put outs.Link 
   keeps_after : (c : ClientState) (m : PacketView) → Keeps P (after_packet p c m)
   keeps_after c (whole bytes) = keeps_bytes c bytes
   keeps_after c packets.none = keeps_end P _
-  keeps_after c (packets.bad_length n) = keeps_end P _
-  keeps_after c (packets.ended had) = keeps_end P _
+  keeps_after c (packets.wrong cause) = keeps_end P _
   keeps_after c packets.broken = keeps_end P _
 
   pub keeps_next : (c : ClientState) → Keeps P (HearsNext p c)

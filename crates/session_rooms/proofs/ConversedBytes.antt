@@ -4,7 +4,7 @@ use Rattle.std.proofs.lemmas.Bool.{ltb-true, ltb-false}
 use Rattle.tl_base.specs.Outside.{Written, left_of, out_part, written_of}
 use Rattle.tl_base.specs.declared.host.Out.TheVariants as outs
 use Rattle.tl_base.specs.declared.host.Slot.TheVariants.{Link}
-use Rattle.update_sessions.specs.declared.fault.PacketCause.TheVariants.{BadLength, Ended}
+use Rattle.tl_base.specs.declared.packet.PacketCause.TheVariants.{BadLength, Ended}
 use Rattle.box_events.specs.declared.replies.Frame.{Frame}
 use Rattle.box_client.specs.Asking.{ticks, wakes, is_one_asking}
 use Rattle.box_client.specs.States.{ClientState}
@@ -137,8 +137,7 @@ module _ (p : ProfileView) where
   packet_more : (c d : ClientState) (v : PacketView) (t u : List Event) (a m b : Outside) → TakesPacket Link t v → after_packet p c v u (Ok d) → Fits t a m → Fits u m b → NextOver c d (Ok tt) a b
   packet_more c d (whole bytes) t u a m b takes h f g = heard_more c d bytes t u a m b takes h f g
   packet_more c d packets.none t u a m b takes h f g = absurd (let no : ◌≡◌ {A = Outcome} (Ok d) (Err (session.Packet (Ended 0))) = h.1 in cc)
-  packet_more c d (packets.bad_length n) t u a m b takes h f g = absurd (let no : ◌≡◌ {A = Outcome} (Ok d) (Err (session.Packet (BadLength n))) = h.1 in cc)
-  packet_more c d (packets.ended had) t u a m b takes h f g = absurd (let no : ◌≡◌ {A = Outcome} (Ok d) (Err (session.Packet (Ended had))) = h.1 in cc)
+  packet_more c d (packets.wrong cause) t u a m b takes h f g = absurd (let no : ◌≡◌ {A = Outcome} (Ok d) (Err (session.Packet cause)) = h.1 in cc)
   packet_more c d packets.broken t u a m b takes h f g = absurd (let no : ◌≡◌ {A = Outcome} (Ok d) (Err session.LinkFault) = h.1 in cc)
 
   next_more : (c d : ClientState) (t : List Event) (a b : Outside) → HearsNext p c t (Ok d) → Fits t a b → NextOver c d (Ok tt) a b
@@ -180,13 +179,13 @@ module _ (p : ProfileView) where
   packet_none c fault (whole bytes) t u a m b takes h f g = heard_none c fault bytes t u a m b takes h f g
   packet_none c fault packets.none t u a m b takes h f g =
       unsent c fault (session.Packet (Ended 0)) t u packets.none a m b takes f g h.0 h.1 tt ((refl, refl), inl (packet_left Link t packets.none a m takes f, refl))
-  packet_none c fault (packets.bad_length n) t u a m b takes h f g =
-      let left = packet_left Link t (packets.bad_length n) a m takes f in
-      unsent c fault (session.Packet (BadLength n)) t u (packets.bad_length n) a m b takes f g h.0 h.1 left.0 ((refl, refl), inr (given_by m, left.2, left.1))
-  packet_none c fault (packets.ended had) t u a m b takes h f g =
-      let left = packet_left Link t (packets.ended had) a m takes f in
+  packet_none c fault (packets.wrong (BadLength n)) t u a m b takes h f g =
+      let left = packet_left Link t (packets.wrong (BadLength n)) a m takes f in
+      unsent c fault (session.Packet (BadLength n)) t u (packets.wrong (BadLength n)) a m b takes f g h.0 h.1 left.0 ((refl, refl), inr (given_by m, left.2, left.1))
+  packet_none c fault (packets.wrong (Ended had)) t u a m b takes h f g =
+      let left = packet_left Link t (packets.wrong (Ended had)) a m takes f in
       let many : length (given_by a) ≡ had = sym left.1 in
-      unsent c fault (session.Packet (Ended had)) t u (packets.ended had) a m b takes f g h.0 h.1 tt ((refl, refl), inr (many, omega (arith, left.0, many), left.2))
+      unsent c fault (session.Packet (Ended had)) t u (packets.wrong (Ended had)) a m b takes f g h.0 h.1 tt ((refl, refl), inr (many, omega (arith, left.0, many), left.2))
   packet_none c fault packets.broken t u a m b takes h f g =
       unsent c fault session.LinkFault t u packets.broken a m b takes f g h.0 h.1 tt ([], (omega arith, cut_none (client_side p) c c (given_by a) refl))
 

@@ -5,8 +5,9 @@ use Rattle.tl_numbers.proofs.Spelled.{words}
 use Rattle.tl_base.specs.Outside.{left_of}
 use Rattle.tl_base.specs.Packets.{IsPacketLength, IsCutShort, packet}
 use Rattle.tl_base.specs.declared.host.Slot.{Slot}
+use Rattle.tl_base.specs.declared.packet.PacketCause.TheVariants.{BadLength, Ended}
 use Rattle.outside.specs.Events.{Event, Outside, ended}
-use Rattle.outside.specs.Packets.{PacketView, whole, none, bad_length, AfterLength, bad, good, TakesPacket, after_head, content_of, cut_off}
+use Rattle.outside.specs.Packets.{PacketView, whole, none, wrong, AfterLength, bad, good, TakesPacket, after_head, content_of, cut_off}
 use Rattle.outside.specs.Packets as packets
 use Rattle.outside.specs.Pieces.{TakenView, full, short, broken, Takes}
 use Rattle.outside.specs.Fits.{Fits}
@@ -30,8 +31,8 @@ module _ (slot : Slot) where
   abbrev pub PacketLeft : PacketView → List ℕ → List ℕ → Type 0
   PacketLeft (whole content) left after = left ≡ packet content ++ after
   PacketLeft none left after = left ≡ []
-  PacketLeft (bad_length n) left after = (n < 2 ^ 32) × ¬ IsPacketLength n × (left ≡ word n ++ after)
-  PacketLeft (packets.ended had) left after = (0 < length left) × (had ≡ length left) × IsCutShort left
+  PacketLeft (wrong (BadLength n)) left after = (n < 2 ^ 32) × ¬ IsPacketLength n × (left ≡ word n ++ after)
+  PacketLeft (wrong (Ended had)) left after = (0 < length left) × (had ≡ length left) × IsCutShort left
   PacketLeft packets.broken left after = Unit {0}
 
   cut_left : (head left after : List ℕ) → left ≡ head → length head < 4 → PacketLeft (cut_off (length head)) left after

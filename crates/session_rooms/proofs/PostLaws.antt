@@ -49,8 +49,7 @@ module _ (schema address input : List ℕ) where
       keeps_after : (m : PacketView) → Keeps P (after_packet p n m)
       keeps_after (whole body) t s (o, of, h) = keeps_told o t s h
       keeps_after packets.none t s h = tells _ _ t s h
-      keeps_after (packets.bad_length k) t s h = tells _ _ t s h
-      keeps_after (packets.ended had) t s h = tells _ _ t s h
+      keeps_after (packets.wrong cause) t s h = tells _ _ t s h
       keeps_after packets.broken t s h = tells _ _ t s h
 
       keeps_sent : (ok : Bool) → Keeps P (after_sending p n ok)
@@ -111,8 +110,7 @@ module _ (p : ProfileView) (address : List ℕ) where
     packet_cause : (m : PacketView) (t u : List Event) (s : Status) → TakesPacket slots.Link t m → after_packet p n m u s → Explains s (t ++ u)
     packet_cause (whole body) t u s taken (o, of, h) = told_cause o t u s (packet_came t (whole body) taken tt) h
     packet_cause packets.none t u s taken h = blamed _ t u s (packet_came t packets.none taken tt) h
-    packet_cause (packets.bad_length k) t u s taken h = blamed _ t u s (packet_came t (packets.bad_length k) taken tt) h
-    packet_cause (packets.ended had) t u s taken h = blamed _ t u s (packet_came t (packets.ended had) taken tt) h
+    packet_cause (packets.wrong cause) t u s taken h = blamed _ t u s (packet_came t (packets.wrong cause) taken tt) h
     packet_cause packets.broken t u s taken h = lost t u s (broken_packet slots.Link t taken) h
 
     sent_cause : (b : List ℕ) (ok : Bool) (t u : List Event) (s : Status) → Writes outs.Link (packet b) t ok → after_sending p n ok u s → Explains s (t ++ u)

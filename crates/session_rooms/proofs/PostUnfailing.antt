@@ -127,8 +127,7 @@ module _ (p : ProfileView) (number : ℕ) where
       let fits = room o (packet_of body (rest_of slots.Link m) (whole_packet slots.Link t body takes).0 (packet_left slots.Link t (whole body) s m takes f) of) in
       outcome_told o u r m n h g (reliable_on s m (fits_keeps t s m f) reliable) (subst (λ (v : View). HasRoom outs.Output (length (shown_of o)) v) (sym same) fits)
   packet_told packets.none t u r s m n takes h f g reliable same room = tell_told _ PeerFault r u peer_told h
-  packet_told (packets.bad_length k) t u r s m n takes h f g reliable same room = tell_told _ PeerFault r u peer_told h
-  packet_told (packets.ended had) t u r s m n takes h f g reliable same room = tell_told _ PeerFault r u peer_told h
+  packet_told (packets.wrong cause) t u r s m n takes h f g reliable same room = tell_told _ PeerFault r u peer_told h
   packet_told packets.broken t u r s m n takes h f g reliable same room =
       absurd (taken_never (slot_kind slots.Link) t s m f reliable (keeps_packet slots.Link IsTaken (λ _. tt) tt tt t packets.broken takes) (broken_packet slots.Link t takes))
 

@@ -35,7 +35,8 @@ use Rattle.schema_files.specs.Answering.{OfSchemaText}
 use Rattle.schema_files.specs.Answering as answering
 use Rattle.schema_files.specs.declared.json_input.TheConstants.{JSON_BYTES}
 use Rattle.schema_files.specs.declared.schema_text.TheConstants.{SCHEMA_BYTES}
-use Rattle.fault_lines.specs.Packets.{ended_line, length_line}
+use Rattle.tl_base.specs.declared.packet.PacketCause.TheVariants.{Ended}
+use Rattle.fault_lines.specs.Packets.{packet_line}
 use Rattle.fault_lines.specs.Profiled as profiling
 use Rattle.fault_lines.proofs.Profiled.{are_profiles}
 use Rattle.codec_rooms.specs.Typed as typed
@@ -123,9 +124,8 @@ module _ (p : ProfileView) (good : IsProfile p) (number : ℕ) where
   packet_came : (v : PacketView) (t u : List Event) (r : Status) (s m n : Outside) → TakesPacket slots.Link t v → after_packet p number v u r → Fits t s m → Fits u m n → AreBytes (rest_of slots.Link s) → Came (rest_of slots.Link s) m n
   packet_came (whole body) t u r s m n takes (o, of, h) f g bytes =
       (o, packet_of body (rest_of slots.Link m) (whole_packet slots.Link t body takes).0 (packet_left slots.Link t (whole body) s m takes f) of, outcome_shows o u r m n h g)
-  packet_came packets.none t u r s m n takes h f g bytes = came_none (rest_of slots.Link s) m n bytes (tell_only (ended_line 0) PeerFault r u m n h g)
-  packet_came (packets.bad_length k) t u r s m n takes h f g bytes = came_none (rest_of slots.Link s) m n bytes (tell_only (length_line k) PeerFault r u m n h g)
-  packet_came (packets.ended had) t u r s m n takes h f g bytes = came_none (rest_of slots.Link s) m n bytes (tell_only (ended_line had) PeerFault r u m n h g)
+  packet_came packets.none t u r s m n takes h f g bytes = came_none (rest_of slots.Link s) m n bytes (tell_only (packet_line (Ended 0)) PeerFault r u m n h g)
+  packet_came (packets.wrong cause) t u r s m n takes h f g bytes = came_none (rest_of slots.Link s) m n bytes (tell_only (packet_line cause) PeerFault r u m n h g)
   packet_came packets.broken t u r s m n takes h f g bytes = came_none (rest_of slots.Link s) m n bytes (tell_only link_fault_line LinkFault r u m n h g)
 
   shows_later : (output : List ℕ) (s m n : Outside) → output_of m ≡ output_of s → aside m.view ≡ aside s.view → Shows output m n → Shows output s n

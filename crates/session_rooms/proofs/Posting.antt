@@ -4,8 +4,7 @@ use Rattle.std.proofs.lemmas.List.{append-nil, append_assoc}
 use Rattle.tl_numbers.specs.Bytes.{AreBytes}
 use Rattle.tl_base.specs.declared.host.Out.{Out}
 use Rattle.tl_base.specs.declared.host.Slot.TheVariants as slots
-use Rattle.update_sessions.specs.declared.fault.PacketCause.{PacketCause}
-use Rattle.update_sessions.specs.declared.fault.PacketCause.TheVariants as packet_fault
+use Rattle.tl_base.specs.declared.packet.PacketCause.{PacketCause}
 use Rattle.tl_schema.specs.Schemas.{Declared}
 use Rattle.tl_schema.specs.Types.{Shape, call}
 use Rattle.tl_types.specs.Seen.{view}
@@ -15,13 +14,13 @@ use Rattle.wire_profile.specs.Indexes.{ProfileView}
 use Rattle.wire_profile.specs.Profiles.{IsProfile}
 use Rattle.outside.specs.Answer.{Answer, done, link_fault_line, refused}
 use Rattle.outside.specs.Jobs.{of_fault}
-use Rattle.outside.specs.Loading.{Refuses}
+use Rattle.outside.specs.Loading.{PeerAs, Refuses}
 use Rattle.outside.specs.declared.status.Status.{Status}
 use Rattle.outside.specs.declared.status.Status.TheVariants.{LinkFault, PeerFault}
 use Rattle.outside.specs.declared.stop.Stop.TheVariants as stop
 use Rattle.outside.specs.declared.stop.LoadError.{LoadError}
 use Rattle.outside.proofs.Loaded.{refuses_as}
-use Rattle.fault_lines.specs.Packets.{TellsPacket, ended_line, length_line}
+use Rattle.fault_lines.specs.Packets.{packet_line}
 use Rattle.fault_lines.specs.Messages.{wire_line}
 use Rattle.outside.specs.Events.{Event, HostState, connected, opened, put}
 use Rattle.outside.specs.Packets.{PacketView, whole, TakesPacket, packet_view}
@@ -49,7 +48,7 @@ use Rattle.session_commands.specs.inner.Posting.{MaySendCall, Sends, TellsUnsent
 use Rattle.session_commands.proofs.EachPost.{each_body, each_json}
 use Rattle.session_commands.proofs.InputParts.{spelled}
 use Rattle.session_rooms.specs.Post.{CallsOver, OfCall, no_call, long_call, calls_it, OfInputFile, OfText, no_json, json_of, TellsBody, after_packet, after_reading, told_as}
-use Rattle.session_rooms.specs.inner.Sent.{MakesCall, TellsNothing, no_json_told, no_call_told, TellsNoPacket}
+use Rattle.session_rooms.specs.inner.Sent.{MakesCall, TellsNothing, no_json_told, no_call_told}
 use Rattle.session_rooms.proofs.States.{file_bytes}
 
 -- ---- the JSON of a call
@@ -157,8 +156,7 @@ module _ (p : ProfileView) (n : ℕ) where
     pub can_reply : (t : List Event) (m : PacketView) → TakesPacket slots.Link t m → Begins (after_packet p n m) []
     can_reply t (whole body) h = can_body body (whole_packet slots.Link t body h).1
     can_reply t packets.none h = can_tell _ _
-    can_reply t (packets.bad_length k) h = can_tell _ _
-    can_reply t (packets.ended had) h = can_tell _ _
+    can_reply t (packets.wrong cause) h = can_tell _ _
     can_reply t packets.broken h = can_tell _ _
 
   module _ (body : List ℕ) (q r : HostState) (status : Status) where
@@ -180,13 +178,11 @@ packet_are q r x content is d = (whole_packet slots.Link d.trace content.items (
 tells_at : (line told : List ℕ) (q r : HostState) (status : Status) → line ≡ told → Did (Tells told PeerFault) q r (Some status) → DidIn to_link (Tells line PeerFault) q r (Some status)
 tells_at line told q r status is h = did_any _ q r status (subst (λ (l : List ℕ). Did (Tells l PeerFault) q r (Some status)) (sym is) h)
 
-pub packet_blamed : (fault : PacketCause) (line : Vec ℕ Global) (told : List ℕ) (q r : HostState) (status : Status) → TellsPacket fault (stop.Peer line) → told ≡ line.items → Did (Tells told PeerFault) q r (Some status) → TellsNoPacket fault q r (Some status)
-packet_blamed (packet_fault.BadLength n) line told q r status is same h = tells_at (length_line n) told q r status (sym is ∙ sym same) h
-packet_blamed (packet_fault.Ended had) line told q r status is same h = tells_at (ended_line had) told q r status (sym is ∙ sym same) h
+pub packet_blamed : (cause : PacketCause) (line : Vec ℕ Global) (told : List ℕ) (q r : HostState) (status : Status) → PeerAs (packet_line cause) (stop.Peer line) → told ≡ line.items → Did (Tells told PeerFault) q r (Some status) → DidIn to_link (Tells (packet_line cause) PeerFault) q r (Some status)
+packet_blamed cause line told q r status is same = tells_at (packet_line cause) told q r status (sym is ∙ sym same)
 
-pub packet_untold : (fault : PacketCause) (q : HostState) → TellsNoPacket fault q q None
-packet_untold (packet_fault.BadLength n) q = did_none _ q (can_tell (length_line n) PeerFault)
-packet_untold (packet_fault.Ended had) q = did_none _ q (can_tell (ended_line had) PeerFault)
+pub packet_untold : (cause : PacketCause) (q : HostState) → DidIn to_link (Tells (packet_line cause) PeerFault) q q None
+packet_untold cause q = did_none _ q (can_tell (packet_line cause) PeerFault)
 
 -- ---- a packet in two parts
 

@@ -1,7 +1,7 @@
 -- A client's session over the link in hand, packet by packet: what is asked is sent before the next packet is taken. This project's own.
 use Rattle.std.specs.Prelude.{◌≡◌, ℕ, ◌+◌, ltb, List, [], Bool, true, false, Option, Some, None, Result, Ok, Err}
 use Rattle.tl_base.specs.declared.host.Slot.TheVariants.{Link}
-use Rattle.update_sessions.specs.declared.fault.PacketCause.TheVariants.{BadLength, Ended}
+use Rattle.tl_base.specs.declared.packet.PacketCause.TheVariants.{BadLength, Ended}
 use Rattle.box_events.specs.declared.replies.Frame.{Frame}
 use Rattle.box_client.specs.States.{ClientState}
 use Rattle.box_client.specs.Asking.{ticks, wakes, is_one_asking}
@@ -11,7 +11,7 @@ use Rattle.wire_profile.specs.Indexes.{ProfileView}
 use Rattle.box_wire.specs.Kinds.{frames}
 use Rattle.box_wire.specs.Framing.{WireRefused}
 use Rattle.outside.specs.Events.{Event}
-use Rattle.outside.specs.Packets.{PacketView, whole, none, bad_length, ended, broken, TakesPacket}
+use Rattle.outside.specs.Packets.{PacketView, whole, none, wrong, broken, TakesPacket}
 use Rattle.outside.specs.Steps.{Step, Turn, again, leave, Ends, Then, Loops}
 use Rattle.update_sessions.specs.declared.fault.SessionFault.{SessionFault}
 use Rattle.update_sessions.specs.declared.fault.SessionFault.TheVariants.{Packet, Wire, Client, TooManyFrames, LinkFault, Memory}
@@ -46,8 +46,7 @@ pub data HearsBytes (p : ProfileView) (c : ClientState) (bytes : List ℕ) (t : 
 abbrev pub after_packet : ProfileView → ClientState → PacketView → Step Outcome
 after_packet p c (whole bytes) = HearsBytes p c bytes
 after_packet p c none = Ends (Err (Packet (Ended 0)))
-after_packet p c (bad_length n) = Ends (Err (Packet (BadLength n)))
-after_packet p c (ended had) = Ends (Err (Packet (Ended had)))
+after_packet p c (wrong cause) = Ends (Err (Packet cause))
 after_packet p c broken = Ends (Err LinkFault)
 
 abbrev pub HearsNext : ProfileView → ClientState → Step Outcome

@@ -17,9 +17,10 @@ use Rattle.outside.specs.Answer.{done, refused, link_fault_line}
 use Rattle.outside.specs.declared.status.Status.{Status}
 use Rattle.outside.specs.declared.status.Status.TheVariants.{LinkFault, PeerFault}
 use Rattle.fault_lines.specs.Messages.{wire_line}
-use Rattle.fault_lines.specs.Packets.{length_line, ended_line}
+use Rattle.tl_base.specs.declared.packet.PacketCause.TheVariants.{Ended}
+use Rattle.fault_lines.specs.Packets.{packet_line}
 use Rattle.outside.specs.Events.{Event, connected}
-use Rattle.outside.specs.Packets.{PacketView, whole, none, bad_length, ended, broken, TakesPacket}
+use Rattle.outside.specs.Packets.{PacketView, whole, none, wrong, broken, TakesPacket}
 use Rattle.outside.specs.Pieces.{ReadsFile, Tells, Writes}
 use Rattle.outside.specs.Printing.{Prints, Unread}
 use Rattle.outside.specs.Steps.{Step, Calls, Then}
@@ -50,9 +51,8 @@ link_lost = Tells link_fault_line LinkFault
 -- of the first packet, or of none
 abbrev pub after_packet : ProfileView → ℕ → PacketView → Step Status
 after_packet p n (whole body) = TellsBody p n body
-after_packet p n none = Tells (ended_line 0) PeerFault
-after_packet p n (bad_length m) = Tells (length_line m) PeerFault
-after_packet p n (ended had) = Tells (ended_line had) PeerFault
+after_packet p n none = Tells (packet_line (Ended 0)) PeerFault
+after_packet p n (wrong cause) = Tells (packet_line cause) PeerFault
 after_packet p n broken = link_lost
 
 -- ---- the call, of this number and these bytes

@@ -12,8 +12,8 @@ use box_client::Client;
 use box_events::Asks;
 use outside::{Host, Packet, take_packet};
 use std::alloc::Global;
-use tl_base::{Bytes, Slot};
-use update_sessions::{MAX_FRAMES, PacketCause, SessionFault, ask_all, hear_packet};
+use tl_base::{Bytes, PacketCause, Slot};
+use update_sessions::{MAX_FRAMES, SessionFault, ask_all, hear_packet};
 use wire_profile::Profile;
 
 /// Asks for all that is new, and hears frames until the client asks no more.
@@ -79,10 +79,7 @@ fn hear_next<H: Host>(
     match take_packet(alloc, host, Slot::Link)? {
         Packet::Whole(bytes) => hear_bytes(alloc, host, profile, client, &bytes, asks, out),
         Packet::None => Err(SessionFault::Packet(PacketCause::Ended { had: 0 })),
-        Packet::BadLength { length } => {
-            Err(SessionFault::Packet(PacketCause::BadLength { length }))
-        }
-        Packet::Ended { had } => Err(SessionFault::Packet(PacketCause::Ended { had })),
+        Packet::Wrong(cause) => Err(SessionFault::Packet(cause)),
         Packet::Broken => Err(SessionFault::LinkFault),
     }
 }

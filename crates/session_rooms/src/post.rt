@@ -2,6 +2,9 @@
 ghost use Rattle.std.specs.Prelude.{codes, ◌≤◌, length, true};
 ghost use Rattle.outside.specs.Runs.{RanIn, answered};
 ghost use Rattle.outside.specs.Begun.{DidIn, to_link};
+ghost use Rattle.outside.specs.Pieces.{Tells};
+ghost use Rattle.outside.specs.declared.status.Status.TheVariants.{PeerFault};
+ghost use Rattle.fault_lines.specs.Packets.{packet_line};
 ghost use Rattle.tl_numbers.specs.Bytes.{AreBytes};
 ghost use Rattle.tl_schema.specs.CheckedPrograms.{IsSchema};
 ghost use Rattle.tl_schema.specs.Types.{call};
@@ -11,7 +14,7 @@ ghost use Rattle.box_events.specs.declared.limits.TheConstants.{MAX_FRAME_BYTES}
 ghost use Rattle.codec_rooms.specs.Typed.{OfText as OfSchemaText};
 ghost use Rattle.update_commands.specs.Profile.{OfProfile};
 ghost use Rattle.session_rooms.specs.Post.{CallsOver, OfInputFile, OfText, TellsBody, after_connect, after_sending, posts};
-ghost use Rattle.session_rooms.specs.inner.Sent.{MakesCall, TellsNoPacket};
+ghost use Rattle.session_rooms.specs.inner.Sent.{MakesCall};
 
 use crate::sending::send_packet;
 use fault_lines::{packet_stop, profile_of};
@@ -21,10 +24,9 @@ use outside::{
 use schema_files::{JSON_BYTES, SCHEMA_BYTES, fit_error, formed_value, schema_of};
 use session_commands::{Sending, call_of, reply_line};
 use std::alloc::{AllocError, Global};
-use tl_base::{Bytes, Slot};
+use tl_base::{Bytes, PacketCause, Slot};
 use tl_schema::{Schema, TypeRef};
 use tl_types::{Value, fits};
-use update_sessions::PacketCause;
 use wire_profile::Profile;
 
 /// Sends the call that an input's JSON is to an address, and writes its reply's JSON.
@@ -193,10 +195,7 @@ fn take_reply<H: Host>(
     match take_packet(alloc, host, Slot::Link)? {
         Packet::Whole(body) => tell_reply(alloc, host, profile, number, body),
         Packet::None => tell_packet(alloc, host, PacketCause::Ended { had: 0 }),
-        Packet::BadLength { length } => {
-            tell_packet(alloc, host, PacketCause::BadLength { length })
-        }
-        Packet::Ended { had } => tell_packet(alloc, host, PacketCause::Ended { had }),
+        Packet::Wrong(cause) => tell_packet(alloc, host, cause),
         Packet::Broken => Ok(tell(host, b"tlbox: link fault\n", Status::LinkFault)),
     }
 }
@@ -224,11 +223,11 @@ fn tell_reply<H: Host>(
 fn tell_packet<H: Host>(
     alloc: Global,
     host: &mut H,
-    fault: PacketCause,
+    cause: PacketCause,
 ) -> Result<Status, AllocError>
-    ensures { TellsNoPacket fault (H.state host.old) (H.state host.new) (answered result) }
+    ensures { DidIn to_link (Tells (packet_line cause) PeerFault) (H.state host.old) (H.state host.new) (answered result) }
 {
-    match packet_stop(alloc, fault) {
+    match packet_stop(alloc, cause) {
         Stop::Peer(line) => Ok(tell(host, &line, Status::PeerFault)),
         _ => Err(AllocError),
     }

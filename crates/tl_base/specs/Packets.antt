@@ -4,7 +4,8 @@ use Rattle.std.specs.Io.KnownBytes.{Consumes}
 use Rattle.tl_numbers.specs.Numbers.{word}
 use Rattle.tl_base.specs.declared.packet.TheConstants.{PACKET_BYTES}
 use Rattle.tl_base.specs.declared.packet.PacketFault.{PacketFault}
-use Rattle.tl_base.specs.declared.packet.PacketFault.TheVariants.{BadLength, Ended, ReadFault, Memory}
+use Rattle.tl_base.specs.declared.packet.PacketFault.TheVariants.{Refused, ReadFault, Memory}
+use Rattle.tl_base.specs.declared.packet.PacketCause.TheVariants.{BadLength, Ended}
 use Rattle.tl_base.specs.declared.source.TextFault.{TextFault}
 use Rattle.tl_base.specs.declared.source.TextFault.TheVariants as text
 
@@ -29,8 +30,8 @@ IsWithinPacket bytes = (length bytes < 4) ⊎ ((n : ℕ) × (rest : List ℕ) ×
 abbrev pub ReadsPacket : List ℕ → Option (List ℕ) → List ℕ → Result Bool PacketFault → Type 0
 ReadsPacket bytes after into (Ok true) = Consumes (Some bytes) after (packet into)
 ReadsPacket bytes after into (Ok false) = (bytes ≡ []) × (after ≡ Some [])
-ReadsPacket bytes after into (Err (BadLength length)) = Consumes (Some bytes) after (word length)
-ReadsPacket bytes after into (Err (Ended had)) = (length bytes ≡ had) × IsCutShort bytes × (after ≡ Some [])
+ReadsPacket bytes after into (Err (Refused (BadLength length))) = Consumes (Some bytes) after (word length)
+ReadsPacket bytes after into (Err (Refused (Ended had))) = (length bytes ≡ had) × IsCutShort bytes × (after ≡ Some [])
 ReadsPacket bytes after into (Err ReadFault) = (prefix : List ℕ) × Consumes (Some bytes) after prefix × IsCutShort prefix
 ReadsPacket bytes after into (Err Memory) = (prefix : List ℕ) × Consumes (Some bytes) after prefix × IsWithinPacket prefix
 
@@ -38,8 +39,8 @@ ReadsPacket bytes after into (Err Memory) = (prefix : List ℕ) × Consumes (Som
 abbrev pub PacketInto : List ℕ → Result Bool PacketFault → Type 0
 PacketInto into (Ok true) = IsPacketLength (length into)
 PacketInto into (Ok false) = into ≡ []
-PacketInto into (Err (BadLength length)) = (into ≡ []) × ¬ IsPacketLength length
-PacketInto into (Err (Ended had)) = (into ≡ []) × (0 < had) × (had < 4 + PACKET_BYTES)
+PacketInto into (Err (Refused (BadLength length))) = (into ≡ []) × ¬ IsPacketLength length
+PacketInto into (Err (Refused (Ended had))) = (into ≡ []) × (0 < had) × (had < 4 + PACKET_BYTES)
 PacketInto into (Err ReadFault) = into ≡ []
 PacketInto into (Err Memory) = into ≡ []
 

@@ -28,7 +28,7 @@ pub use mem_host::MemHost;
 pub use mem_script::HostCall;
 pub use mem_sink::MemSink;
 pub use mem_source::MemSource;
-pub use packet::{PACKET_BYTES, PacketFault, read_packet, write_packet};
+pub use packet::{PACKET_BYTES, PacketCause, PacketFault, read_packet, write_packet};
 pub use sink::{Sink, WriteFault, write_all};
 pub use slices::SliceSource;
 pub use source::{Source, TakeFault, TextFault, take_bytes, take_end, take_text, take_word};

@@ -3,6 +3,8 @@ ghost use Rattle.std.specs.Prelude.{◌≡◌, ◌+◌, ◌↔◌, IfSome, IsErr
 ghost use Rattle.tl_base.specs.Using.{Used, Wrote};
 ghost use Rattle.tl_base.specs.Writing.{WritesPiece};
 ghost use Rattle.tl_base.specs.Packets.{IsPacketLength, ReadsPacket, PacketInto, packet};
+ghost use Rattle.tl_base.specs.declared.packet.PacketCause.TheVariants.{Ended};
+ghost use Rattle.tl_base.specs.declared.packet.PacketFault.TheVariants.{Refused};
 
 use crate::sink::{Sink, WriteFault, write_all};
 use crate::source::{Source, TakeFault, TextFault, take_up_to, take_word};
@@ -12,15 +14,23 @@ use tl_numbers::{Bytes, bytes_of_u32, u32_of};
 /// How many bytes a packet has at most.
 pub const PACKET_BYTES: u32 = 1_048_576;
 
-/// Why no packet was read.
+/// Why the next bytes are no packet.
 #[derive(Clone, Copy, Debug, Error)]
-pub enum PacketFault {
+pub enum PacketCause {
     /// No packet has so many bytes.
     #[error("a packet of {length} bytes")]
     BadLength { length: u32 },
     /// The input ended after so many bytes of the packet.
     #[error("the input ended after {had} bytes")]
     Ended { had: u32 },
+}
+
+/// Why no packet was read.
+#[derive(Clone, Copy, Debug, Error)]
+pub enum PacketFault {
+    /// The next bytes are none.
+    #[error(transparent)]
+    Refused(PacketCause),
     #[error("read fault")]
     ReadFault,
     #[error("out of memory")]
@@ -48,6 +58,13 @@ fn is_packet_length(length: u32) -> bool
     length % 4 == 0 && length <= PACKET_BYTES
 }
 
+// The input ended after so many bytes of a packet.
+fn ended(had: u32) -> PacketFault
+    ensures { result ≡ Refused (Ended had) }
+{
+    PacketFault::Refused(PacketCause::Ended { had })
+}
+
 /// Reads a packet. False: the input ended before its first byte. After every other answer than true `into` is empty.
 pub fn read_packet<S: Source>(from: &mut S, into: &mut Bytes) -> Result<bool, PacketFault>
     ensures bytes { IfSome (S.state from.old).left (λ bytes. ReadsPacket bytes (S.state from.new).left into.new result) }
@@ -58,12 +75,12 @@ pub fn read_packet<S: Source>(from: &mut S, into: &mut Bytes) -> Result<bool, Pa
     let head = match take_word(from) {
         Ok(head) => head,
         Err(TakeFault::Ended { had: 0 }) => return Ok(false),
-        Err(TakeFault::Ended { had }) => return Err(PacketFault::Ended { had }),
+        Err(TakeFault::Ended { had }) => return Err(ended(had)),
         Err(TakeFault::ReadFault) => return Err(PacketFault::ReadFault),
     };
     let length = u32_of(head);
     if !is_packet_length(length) {
-        return Err(PacketFault::BadLength { length });
+        return Err(PacketFault::Refused(PacketCause::BadLength { length }));
     }
     match take_up_to(from, length as usize, into) {
         Ok(()) => {}
@@ -75,7 +92,7 @@ pub fn read_packet<S: Source>(from: &mut S, into: &mut Bytes) -> Result<bool, Pa
     let had = into.len() as u32;
     if had < length {
         into.clear();
-        return Err(PacketFault::Ended { had: 4 + had });
+        return Err(ended(4 + had));
     }
     Ok(true)
 }

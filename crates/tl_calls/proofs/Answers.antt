@@ -10,10 +10,13 @@ use Rattle.tl_types.specs.declared.value.Value.{Value}
 use Rattle.tl_types.specs.declared.value.TheConstants.{MAX_LEVELS}
 use Rattle.tl_types.proofs.Exactly.{exactly_one}
 use Rattle.tl_calls.specs.Results.{result_type, HasResult}
-use Rattle.tl_calls.specs.Calling.{CallsView, IsCalls, AreOpenIn, Answers, AnswersTo, ReadsAnswer, LogsCame, open_at, is_number, without_call}
+use Rattle.tl_calls.specs.Calling.{CallsView, IsCalls, AreOpenIn, Answers, AnswersTo, LogsCame, open_at, is_number, without_call}
 use Rattle.tl_calls.specs.Laws.{AnsweredInFormed}
-use Rattle.tl_calls.specs.declared.fault.AnswerFault.{AnswerFault}
-use Rattle.tl_calls.specs.declared.fault.AnswerFault.TheVariants as answer
+use Rattle.tl_base.specs.declared.fault.Fault.{Fault}
+use Rattle.tl_base.specs.declared.fault.Fault.TheVariants as fault
+use Rattle.tl_decode.specs.Wholes.{ReadsBytes}
+use Rattle.tl_decode.specs.declared.whole.WholeCause.{WholeCause}
+use Rattle.tl_decode.specs.declared.whole.WholeCause.TheVariants as whole
 use Rattle.tl_calls.proofs.Stands.{came_stands, gave_stands, open_found, found_open}
 use Rattle.tl_calls.specs.Seen.{calls_of}
 use Rattle.tl_calls.proofs.Entries.{removed_seen}
@@ -55,23 +58,23 @@ module _ (schema : Declared) (c : CallsView) (n : ℕ) (b : List ℕ) where
     pub has_result : AreOpenIn schema c → HasResult schema call
     has_result are = let f = found_in n c.calls call e in subst (HasResult schema) f.3 (are f.0 f.1 f.2)
 
-    pub fault_answers : (fault : AnswerFault) → ReadsAnswer schema (result_type schema.decls call) b (Err fault) → Answers schema c c n b (Err fault)
+    pub fault_answers : (fault : Fault WholeCause) → ReadsBytes schema (result_type schema.decls call) b (Err fault) → Answers schema c c n b (Err fault)
     fault_answers fault r = subst (AnswersTo schema c c n b (Err fault)) (sym e) (r, refl)
 
-    pub value_answers : (v : Value) → ReadsAnswer schema (result_type schema.decls call) b (Ok v) → Answers schema c (without_call n c) n b (Ok (Some v))
+    pub value_answers : (v : Value) → ReadsBytes schema (result_type schema.decls call) b (Ok v) → Answers schema c (without_call n c) n b (Ok (Some v))
     value_answers v r = subst (AnswersTo schema c (without_call n c) n b (Ok (Some v))) (sym e) (r, refl)
 
-    pub value_logs : (v : Value) → ReadsAnswer schema (result_type schema.decls call) b (Ok v) → LogsCame schema c (without_call n c) n b (Ok (Some v))
+    pub value_logs : (v : Value) → ReadsBytes schema (result_type schema.decls call) b (Ok v) → LogsCame schema c (without_call n c) n b (Ok (Some v))
     value_logs v r = λ past s. gave_stands schema c past n b call (view v) (found_open schema c past n call s e) r s
 
-    pub fault_logs : AnsweredInFormed → IsSchema schema → AreOpenIn schema c → AreBytes b → (fault : AnswerFault) → ReadsAnswer schema (result_type schema.decls call) b (Err fault) → LogsCame schema c c n b (Err fault)
-    fault_logs answered good are bytes (answer.Refused place cause) r = λ past s.
+    pub fault_logs : AnsweredInFormed → IsSchema schema → AreOpenIn schema c → AreBytes b → (fault : Fault WholeCause) → ReadsBytes schema (result_type schema.decls call) b (Err fault) → LogsCame schema c c n b (Err fault)
+    fault_logs answered good are bytes (fault.Refused (whole.Refused place cause)) r = λ past s.
         came_stands schema c past n b (refused_gives schema past n b call (found_open schema c past n call s e)
         (exactly_one schema good MAX_LEVELS (result_type schema.decls call) b (answered schema good call (has_result are)) bytes) r.0 cause r.1) s
-    fault_logs answered good are bytes (answer.Trailing place) r = λ past s.
+    fault_logs answered good are bytes (fault.Refused (whole.Trailing place)) r = λ past s.
         came_stands schema c past n b (trailing_gives schema past n b call (found_open schema c past n call s e)
         (exactly_one schema good MAX_LEVELS (result_type schema.decls call) b (answered schema good call (has_result are)) bytes) r.0 r.1 r.2 r.3 r.4 r.5 r.6) s
-    fault_logs answered good are bytes answer.Memory r = λ past s. s
+    fault_logs answered good are bytes fault.Memory r = λ past s. s
 
 pub closed_fitting : (schema : Declared) (c : CallsView) (n : ℕ) → AreOpenIn schema c → AreOpenIn schema (without_call n c)
 closed_fitting schema c n are k p at = let l = left_at n c.calls k p at in are l.0 p l.3

@@ -7,16 +7,16 @@ use Rattle.tl_schema.specs.Schemas.{Declared}
 use Rattle.tl_types.specs.Values.{ValueView}
 use Rattle.tl_types.specs.Seen.{view}
 use Rattle.tl_types.specs.declared.value.Value.{Value}
-use Rattle.tl_decode.specs.Wholes.{ReadsWhole}
-use Rattle.tl_decode.specs.declared.whole.WholeFault.{WholeFault}
-use Rattle.tl_decode.specs.declared.whole.WholeFault.TheVariants as whole
+use Rattle.tl_decode.specs.Wholes.{ReadsBytes}
+use Rattle.tl_base.specs.declared.fault.Fault.{Fault}
+use Rattle.tl_base.specs.declared.fault.Fault.TheVariants as fault
+use Rattle.tl_decode.specs.declared.whole.WholeCause.{WholeCause}
+use Rattle.tl_decode.specs.declared.whole.WholeCause.TheVariants as whole
 use Rattle.tl_calls.specs.Results.{result_type, HasResult, ResultHas}
 use Rattle.tl_calls.specs.Events.{Log, sent, came, sent_in, open_in, Given}
 use Rattle.tl_calls.specs.declared.calls.TheConstants.{MAX_OPEN}
 use Rattle.tl_calls.specs.declared.fault.SendFault.{SendFault}
 use Rattle.tl_calls.specs.declared.fault.SendFault.TheVariants as send
-use Rattle.tl_calls.specs.declared.fault.AnswerFault.{AnswerFault}
-use Rattle.tl_calls.specs.declared.fault.AnswerFault.TheVariants as answer
 
 -- the number of the next call, and the calls that are open, under their numbers, which ascend
 pub record CallsView : Type 0 where
@@ -60,32 +60,21 @@ Sends schema old new v (Err send.Full) = (length old.calls ≡ MAX_OPEN) × (new
 Sends schema old new v (Err (send.Result cause)) = (length old.calls < MAX_OPEN) × ResultHas schema (result_type schema.decls v) cause × (new ≡ old)
 Sends schema old new v (Err send.Memory) = new ≡ old
 
--- a fault of an answer's bytes, as one of any bytes
-abbrev pub as_whole_fault : AnswerFault → WholeFault
-as_whole_fault (answer.Refused place cause) = whole.Refused place cause
-as_whole_fault (answer.Trailing place) = whole.Trailing place
-as_whole_fault answer.Memory = whole.Memory
-
--- The value of a type that the bytes spell, or where and why they spell none. Out of memory is free.
-abbrev pub ReadsAnswer : Declared → Shape → List ℕ → Result Value AnswerFault → Type 0
-ReadsAnswer schema T b (Ok v) = ReadsWhole schema T b (Ok v)
-ReadsAnswer schema T b (Err fault) = ReadsWhole schema T b (Err (as_whole_fault fault))
-
 -- What an answer to an open call does: the value closes it, and after a refusal it is still open.
-abbrev pub ToCall : Declared → CallsView → CallsView → ℕ → ValueView → List ℕ → Result (Option Value) AnswerFault → Type 0
+abbrev pub ToCall : Declared → CallsView → CallsView → ℕ → ValueView → List ℕ → Result (Option Value) (Fault WholeCause) → Type 0
 ToCall schema old new n asked b (Ok None) = ⊥
-ToCall schema old new n asked b (Ok (Some v)) = ReadsAnswer schema (result_type schema.decls asked) b (Ok v) × (new ≡ without_call n old)
-ToCall schema old new n asked b (Err fault) = ReadsAnswer schema (result_type schema.decls asked) b (Err fault) × (new ≡ old)
+ToCall schema old new n asked b (Ok (Some v)) = ReadsBytes schema (result_type schema.decls asked) b (Ok v) × (new ≡ without_call n old)
+ToCall schema old new n asked b (Err fault) = ReadsBytes schema (result_type schema.decls asked) b (Err fault) × (new ≡ old)
 
 -- An answer to no open call gives nothing, and changes nothing.
-abbrev pub ToNone : CallsView → CallsView → Result (Option Value) AnswerFault → Type 0
+abbrev pub ToNone : CallsView → CallsView → Result (Option Value) (Fault WholeCause) → Type 0
 ToNone old new result = (result ≡ Ok None) × (new ≡ old)
 
-abbrev pub AnswersTo : Declared → CallsView → CallsView → ℕ → List ℕ → Result (Option Value) AnswerFault → Option ValueView → Type 0
+abbrev pub AnswersTo : Declared → CallsView → CallsView → ℕ → List ℕ → Result (Option Value) (Fault WholeCause) → Option ValueView → Type 0
 AnswersTo schema old new n b result None = ToNone old new result
 AnswersTo schema old new n b result (Some asked) = ToCall schema old new n asked b result
 
-abbrev pub Answers : Declared → CallsView → CallsView → ℕ → List ℕ → Result (Option Value) AnswerFault → Type 0
+abbrev pub Answers : Declared → CallsView → CallsView → ℕ → List ℕ → Result (Option Value) (Fault WholeCause) → Type 0
 Answers schema old new n b result = AnswersTo schema old new n b result (open_at old n)
 
 -- ---- events
@@ -102,9 +91,9 @@ LogsSent schema old new v (Ok n) = (past : Log) → StandsFor schema old past �
 LogsSent schema old new v (Err fault) = (past : Log) → StandsFor schema old past → StandsFor schema new past
 
 -- from each log to the log with the answer, and what is handed out is what it gives; an answer that was refused gives nothing
-abbrev pub LogsCame : Declared → CallsView → CallsView → ℕ → List ℕ → Result (Option Value) AnswerFault → Type 0
+abbrev pub LogsCame : Declared → CallsView → CallsView → ℕ → List ℕ → Result (Option Value) (Fault WholeCause) → Type 0
 LogsCame schema old new n b (Ok None) = (past : Log) → StandsFor schema old past → StandsFor schema new ((came n b, None) ∷ past)
 LogsCame schema old new n b (Ok (Some v)) = (past : Log) → StandsFor schema old past → StandsFor schema new ((came n b, Some (view v)) ∷ past)
-LogsCame schema old new n b (Err (answer.Refused place cause)) = (past : Log) → StandsFor schema old past → StandsFor schema new ((came n b, None) ∷ past)
-LogsCame schema old new n b (Err (answer.Trailing place)) = (past : Log) → StandsFor schema old past → StandsFor schema new ((came n b, None) ∷ past)
-LogsCame schema old new n b (Err answer.Memory) = (past : Log) → StandsFor schema old past → StandsFor schema new past
+LogsCame schema old new n b (Err (fault.Refused (whole.Refused place cause))) = (past : Log) → StandsFor schema old past → StandsFor schema new ((came n b, None) ∷ past)
+LogsCame schema old new n b (Err (fault.Refused (whole.Trailing place))) = (past : Log) → StandsFor schema old past → StandsFor schema new ((came n b, None) ∷ past)
+LogsCame schema old new n b (Err fault.Memory) = (past : Log) → StandsFor schema old past → StandsFor schema new past

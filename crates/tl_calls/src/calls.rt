@@ -6,12 +6,13 @@ ghost use Rattle.tl_schema.specs.Schemas.{Declared};
 ghost use Rattle.tl_types.specs.Seen.{view};
 ghost use Rattle.tl_calls.specs.Calling.{Answers, AreOpenIn, LogsCame, LogsSent, Sends, StandsFor, open_at};
 
-use crate::answering::whole_value;
-use crate::fault::{AnswerFault, SendFault};
+use crate::fault::SendFault;
 use crate::result::{made_type, result_cause};
 use std::alloc::Global;
 use std::collections::BTreeMap;
 use std::marker::Model;
+use tl_base::Fault;
+use tl_decode::{WholeCause, decode_bytes_as};
 use tl_schema::Schema;
 use tl_types::Value;
 
@@ -102,7 +103,7 @@ impl Calls {
         schema: &Schema,
         number: u32,
         bytes: &[u8],
-    ) -> Result<Option<Value>, AnswerFault>
+    ) -> Result<Option<Value>, Fault<WholeCause>>
         requires fitting { AreOpenIn schema.now self.old }
         ensures answers { Answers schema.now self.old self.new number bytes.now result }
         ensures fitting { AreOpenIn schema.now self.new }
@@ -112,7 +113,7 @@ impl Calls {
             return Ok(None);
         };
         let of = made_type(call, alloc, schema)?;
-        let value = match whole_value(alloc, schema, &of, bytes) {
+        let value = match decode_bytes_as(alloc, schema, &of, bytes) {
             Ok(value) => value,
             Err(fault) => return Err(fault),
         };

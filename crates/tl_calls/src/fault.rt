@@ -1,7 +1,6 @@
-//! Why a call has no result, why it isn't sent, and why an answer is none.
+//! Why a call has no result, and why it isn't sent.
 use std::alloc::AllocError;
 use thiserror::Error;
-use tl_types::Cause;
 
 /// Why a call's result is no type that is answered in.
 #[derive(Clone, Copy, Debug, Error)]
@@ -35,19 +34,6 @@ pub enum SendFault {
     Memory,
 }
 
-/// Why the bytes are no answer to their call, which stays open.
-#[derive(Clone, Copy, Debug, Error)]
-pub enum AnswerFault {
-    /// They begin no spelling of a value of the call's result: the item at this offset is none, for this cause.
-    #[error("refused at byte {place}: {cause}")]
-    Refused { place: u64, cause: Cause },
-    /// They go on at this offset, after a spelling.
-    #[error("more bytes from byte {place} on")]
-    Trailing { place: u64 },
-    #[error("out of memory")]
-    Memory,
-}
-
 impl From<AllocError> for ResultFault {
     ghost use Rattle.std.specs.Prelude.{◌≡◌};
     ghost use Rattle.tl_calls.specs.declared.fault.ResultFault.TheVariants.{Memory};
@@ -67,16 +53,5 @@ impl From<AllocError> for SendFault {
 
     fn from(_e: AllocError) -> SendFault {
         SendFault::Memory
-    }
-}
-
-impl From<AllocError> for AnswerFault {
-    ghost use Rattle.std.specs.Prelude.{◌≡◌};
-    ghost use Rattle.tl_calls.specs.declared.fault.AnswerFault.TheVariants.{Memory};
-
-    ghost from_gives = { λ _ e. e ≡ Memory };
-
-    fn from(_e: AllocError) -> AnswerFault {
-        AnswerFault::Memory
     }
 }

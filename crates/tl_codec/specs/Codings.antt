@@ -1,6 +1,8 @@
 -- What is made of a schema's text, of a type's name, of bytes and of JSON: what the program writes, or the line with which it refuses.
 use Rattle.std.specs.Prelude.{◌≡◌, ℕ, ◌<◌, ◌≤◌, List, ◌++◌, length, codes, Result, Vec}
 use Rattle.std.specs.declared.alloc.Global.{Global}
+use Rattle.tl_base.specs.declared.fault.Fault.{Fault}
+use Rattle.tl_base.specs.declared.fault.Fault.TheVariants as fault
 use Rattle.tl_schema.specs.Types.{Shape}
 use Rattle.tl_schema.specs.Schemas.{Declared}
 use Rattle.tl_types.specs.Values.{ValueView, depth}
@@ -9,8 +11,8 @@ use Rattle.tl_types.specs.Refusal.{Refused}
 use Rattle.tl_types.specs.Offsets.{moved}
 use Rattle.tl_types.specs.declared.cause.Cause.{Cause}
 use Rattle.tl_types.specs.declared.value.TheConstants.{MAX_LEVELS}
-use Rattle.tl_decode.specs.declared.whole.WholeFault.{WholeFault}
-use Rattle.tl_decode.specs.declared.whole.WholeFault.TheVariants as whole
+use Rattle.tl_decode.specs.declared.whole.WholeCause.{WholeCause}
+use Rattle.tl_decode.specs.declared.whole.WholeCause.TheVariants as whole
 use Rattle.outside.specs.declared.stop.LoadError.{LoadError}
 use Rattle.outside.specs.declared.stop.LoadError.TheVariants as load_error
 use Rattle.outside.specs.Loading.{RefusesAs, Gives}
@@ -21,11 +23,10 @@ use Rattle.schema_files.specs.Parts.{TellsJson}
 -- ---- bytes
 
 -- what is told of bytes that are no value
-abbrev pub TellsFault : WholeFault → LoadError → Type 0
-TellsFault (whole.Refused place cause) u = RefusesAs (input_line place (cause_text cause)) u
-TellsFault (whole.Trailing place) u = RefusesAs (input_line place (codes "Trailing")) u
-TellsFault whole.ReadFault u = u ≡ load_error.ReadFault
-TellsFault whole.Memory u = u ≡ load_error.Memory
+abbrev pub TellsFault : Fault WholeCause → LoadError → Type 0
+TellsFault (fault.Refused (whole.Refused place cause)) u = RefusesAs (input_line place (cause_text cause)) u
+TellsFault (fault.Refused (whole.Trailing place)) u = RefusesAs (input_line place (codes "Trailing")) u
+TellsFault fault.Memory u = u ≡ load_error.Memory
 
 -- it is the line of the value that all of the bytes spell
 abbrev pub IsLine : Declared → Shape → List ℕ → List ℕ → Type 0

@@ -34,5 +34,5 @@ pub use planned::decode;
 pub use stack::Fed;
 pub use tl_types::MAX_LEVELS;
 pub use walk::decode_walk;
-pub use whole::{WholeFault, decode_whole};
+pub use whole::{WholeCause, WholeFault, decode_whole};
 pub use whole_bytes::{decode_bytes, decode_bytes_as};

@@ -19,7 +19,18 @@ use tl_base::{Failed, Source, take_end};
 use tl_plan::Plan;
 use tl_types::{Cause, Value};
 
-/// Why bytes are no value of a type.
+/// Why bytes in memory are no value of a type.
+#[derive(Clone, Copy, Debug, Error)]
+pub enum WholeCause {
+    /// They begin no spelling of a value: the item at this offset is none, for this cause.
+    #[error("refused at byte {place}: {cause}")]
+    Refused { place: u64, cause: Cause },
+    /// They go on at this offset, after a spelling.
+    #[error("more bytes from byte {place} on")]
+    Trailing { place: u64 },
+}
+
+/// Why the bytes of a source are no value of a type.
 #[derive(Clone, Copy, Debug, Error)]
 pub enum WholeFault {
     /// They begin no spelling of a value: the item at this offset is none, for this cause.

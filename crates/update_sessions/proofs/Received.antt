@@ -4,6 +4,7 @@ use Rattle.std.specs.Prelude.{IfSome}
 use Rattle.tl_base.specs.Packets.{IsPacketLength, ReadsPacket, PacketInto, packet}
 use Rattle.tl_base.specs.declared.packet.PacketFault.{PacketFault}
 use Rattle.tl_base.specs.declared.packet.PacketFault.TheVariants as packets
+use Rattle.tl_base.specs.declared.packet.PacketCause.TheVariants.{BadLength, Ended}
 use Rattle.wire_profile.specs.declared.wire_fault.WireFault.{WireFault}
 use Rattle.box_wire.specs.Answers.{HasCause}
 use Rattle.tl_base.specs.declared.fault.Fault.{Fault}
@@ -23,9 +24,9 @@ module _ {M : Type 0} (MeansIt : M → List ℕ → Type 0) (Refused : List ℕ 
   -- no packet comes
   pub no_packet : (a b : Option (List ℕ)) (into : List ℕ) (fault : PacketFault) → IfSome a (λ bytes. ReadsPacket bytes b into (Err fault)) → PacketInto into (Err fault) → IfSome a (λ bytes. Receives {M = M} MeansIt Refused bytes b (Err (of_packet fault)))
   no_packet None b into fault h g = tt
-  no_packet (Some x) None into (packets.BadLength n) h g = absurd h
-  no_packet (Some x) (Some y) into (packets.BadLength n) h g = (y, h, g.1)
-  no_packet (Some x) b into (packets.Ended had) h g = (h.0, g.1, h.1)
+  no_packet (Some x) None into (packets.Refused (BadLength n)) h g = absurd h
+  no_packet (Some x) (Some y) into (packets.Refused (BadLength n)) h g = (y, h, g.1)
+  no_packet (Some x) b into (packets.Refused (Ended had)) h g = (h.0, g.1, h.1)
   no_packet (Some x) b into packets.ReadFault h g = tt
   no_packet (Some x) b into packets.Memory h g = tt
 
@@ -71,8 +72,7 @@ module _ {M : Type 0} (MeansIt : M → List ℕ → Type 0) (Refused : List ℕ 
 
 -- a link fault is one of the packet
 pub packet_failed : (fault : PacketFault) → of_packet fault ≡ LinkFault → fault ≡ packets.ReadFault
-packet_failed (packets.BadLength n) e = absurd cc
-packet_failed (packets.Ended had) e = absurd cc
+packet_failed (packets.Refused cause) e = absurd cc
 packet_failed packets.ReadFault e = refl
 packet_failed packets.Memory e = absurd cc
 

@@ -5,7 +5,6 @@ use Rattle.wire_profile.specs.declared.wire_fault.WireFault.{WireFault}
 use Rattle.tl_base.specs.declared.fault.Fault.{Fault}
 use Rattle.tl_base.specs.declared.fault.Fault.TheVariants as fault
 use Rattle.box_client.specs.declared.fault.ClientFault.{ClientFault}
-use Rattle.update_sessions.specs.declared.fault.PacketCause.TheVariants.{BadLength, Ended}
 use Rattle.update_sessions.specs.declared.fault.SessionFault.{SessionFault}
 use Rattle.update_sessions.specs.declared.fault.SessionFault.TheVariants.{Packet, Wire, Client, LinkFault, Memory}
 
@@ -13,8 +12,7 @@ use Rattle.update_sessions.specs.declared.fault.SessionFault.TheVariants.{Packet
 abbrev pub of_packet : PacketFault → SessionFault
 of_packet packets.ReadFault = LinkFault
 of_packet packets.Memory = Memory
-of_packet (packets.BadLength n) = Packet (BadLength n)
-of_packet (packets.Ended had) = Packet (Ended had)
+of_packet (packets.Refused cause) = Packet cause
 
 -- a packet is no message
 abbrev pub of_wire : Fault WireFault → SessionFault

@@ -1,7 +1,7 @@
 -- A session of a client over a link: what it reads and writes, and how it ends. This project's own.
 use Rattle.std.specs.Prelude.{◌≡◌, ◌⊎◌, ℕ, ◌<◌, ◌≤◌, List, [], ◌∷◌, ◌++◌, length, true, false, Some, Result, Ok, Err}
-use Rattle.update_sessions.specs.declared.fault.PacketCause.{PacketCause}
-use Rattle.update_sessions.specs.declared.fault.PacketCause.TheVariants.{Ended}
+use Rattle.tl_base.specs.declared.packet.PacketCause.{PacketCause}
+use Rattle.tl_base.specs.declared.packet.PacketCause.TheVariants.{Ended}
 use Rattle.box_events.specs.declared.replies.Frame.{Frame}
 use Rattle.box_client.specs.States.{ClientState}
 use Rattle.box_client.specs.Asking.{ticks, wakes, is_one_asking}

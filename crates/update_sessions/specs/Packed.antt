@@ -2,8 +2,8 @@
 use Rattle.std.specs.Prelude.{◌≡◌, ◌⊎◌, ℕ, ◌<◌, List, [], ◌∷◌, ◌++◌, length}
 use Rattle.tl_numbers.specs.Numbers.{word}
 use Rattle.tl_base.specs.Packets.{IsPacketLength, packet, IsCutShort}
-use Rattle.update_sessions.specs.declared.fault.PacketCause.{PacketCause}
-use Rattle.update_sessions.specs.declared.fault.PacketCause.TheVariants as packets
+use Rattle.tl_base.specs.declared.packet.PacketCause.{PacketCause}
+use Rattle.tl_base.specs.declared.packet.PacketCause.TheVariants as packets
 use Rattle.box_events.specs.declared.requests.Numbered.{Numbered}
 use Rattle.box_events.specs.declared.replies.Frame.{Frame}
 use Rattle.wire_profile.specs.Indexes.{ProfileView}

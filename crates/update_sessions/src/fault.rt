@@ -3,22 +3,11 @@ use box_client::ClientFault;
 use box_wire::Fault;
 use std::alloc::AllocError;
 use thiserror::Error;
-use tl_base::{PacketFault, WriteFault};
+use tl_base::{PacketCause, PacketFault, WriteFault};
 use wire_profile::WireFault;
 
 /// How many frames a session takes at most.
 pub const MAX_FRAMES: u64 = 1_048_576;
-
-/// Why the next bytes are no packet.
-#[derive(Clone, Copy, Debug, Error)]
-pub enum PacketCause {
-    /// No packet has so many bytes.
-    #[error("a packet of {length} bytes")]
-    BadLength { length: u32 },
-    /// The input ended after so many bytes of the packet.
-    #[error("the input ended after {had} bytes")]
-    Ended { had: u32 },
-}
 
 /// Why a session ended.
 #[derive(Clone, Copy, Debug, Error)]
@@ -60,10 +49,7 @@ impl From<PacketFault> for SessionFault {
 
     fn from(fault: PacketFault) -> SessionFault {
         match fault {
-            PacketFault::BadLength { length } => {
-                SessionFault::Packet(PacketCause::BadLength { length })
-            }
-            PacketFault::Ended { had } => SessionFault::Packet(PacketCause::Ended { had }),
+            PacketFault::Refused(cause) => SessionFault::Packet(cause),
             PacketFault::ReadFault => SessionFault::LinkFault,
             PacketFault::Memory => SessionFault::Memory,
         }

@@ -11,12 +11,12 @@ ghost use Rattle.update_sessions.specs.Links.{LinkNeverFails, OverLink, UsesLink
 ghost use Rattle.update_sessions.specs.inner.Steps.{HearsNext};
 
 use crate::asking::{hear_frame, put_asks};
-use crate::fault::{MAX_FRAMES, PacketCause, SessionFault};
+use crate::fault::{MAX_FRAMES, SessionFault};
 use crate::receiving::receive_frame;
 use box_client::Client;
 use box_events::Asks;
 use std::alloc::Global;
-use tl_base::{Bytes, Link, write_all};
+use tl_base::{Bytes, Link, PacketCause, write_all};
 use wire_profile::Profile;
 
 /// Asks for all that is new, and hears frames until it asks no more. It says how many there were.

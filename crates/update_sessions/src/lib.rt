@@ -13,7 +13,7 @@ mod storing;
 
 pub use answering::answer_packet;
 pub use asking::{ask_all, hear_packet};
-pub use fault::{MAX_FRAMES, PacketCause, SessionFault};
+pub use fault::{MAX_FRAMES, SessionFault};
 pub use hearing::client_session;
 pub use laws::{conversations_never_wait, sessions_are_kept};
 pub use serving::serve_session;

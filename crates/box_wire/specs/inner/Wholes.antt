@@ -5,26 +5,25 @@ use Rattle.tl_schema.specs.Schemas.{Declared}
 use Rattle.tl_types.specs.Values.{ValueView}
 use Rattle.tl_types.specs.Spelling.{Spells}
 use Rattle.tl_types.specs.declared.value.Value.{Value}
-use Rattle.tl_decode.specs.Wholes.{ReadsWhole}
-use Rattle.tl_decode.specs.declared.whole.WholeFault.{WholeFault}
-use Rattle.tl_decode.specs.declared.whole.WholeFault.TheVariants as whole
+use Rattle.tl_decode.specs.Wholes.{ReadsBytes}
+use Rattle.tl_decode.specs.declared.whole.WholeCause.{WholeCause}
+use Rattle.tl_decode.specs.declared.whole.WholeCause.TheVariants as whole
 use Rattle.wire_profile.specs.declared.wire_fault.WireFault.{WireFault}
 use Rattle.wire_profile.specs.declared.wire_fault.WireFault.TheVariants as wire
 use Rattle.tl_base.specs.declared.fault.Fault.{Fault}
 use Rattle.tl_base.specs.declared.fault.Fault.TheVariants.{Refused, Memory}
 use Rattle.box_wire.specs.Answers.{IsOnly}
 
--- a fault over bytes in memory; a failed read isn't one
-abbrev pub as_wire_fault : WholeFault → Fault WireFault
-as_wire_fault (whole.Refused place cause) = Refused (wire.Refused place cause)
-as_wire_fault (whole.Trailing place) = Refused (wire.Trailing place)
-as_wire_fault whole.ReadFault = Memory
-as_wire_fault whole.Memory = Memory
+-- why bytes are no value, as a message's fault
+abbrev pub as_wire_fault : Fault WholeCause → Fault WireFault
+as_wire_fault (Refused (whole.Refused place cause)) = Refused (wire.Refused place cause)
+as_wire_fault (Refused (whole.Trailing place)) = Refused (wire.Trailing place)
+as_wire_fault Memory = Memory
 
 -- The value that the bytes spell, or why they spell none.
 abbrev pub ReadsValue : Declared → Shape → List ℕ → Result Value (Fault WireFault) → Type 0
-ReadsValue S T bytes (Ok value) = ReadsWhole S T bytes (Ok value)
-ReadsValue S T bytes (Err fault) = (e : WholeFault) × ReadsWhole S T bytes (Err e) × (fault ≡ as_wire_fault e)
+ReadsValue S T bytes (Ok value) = ReadsBytes S T bytes (Ok value)
+ReadsValue S T bytes (Err fault) = (e : Fault WholeCause) × ReadsBytes S T bytes (Err e) × (fault ≡ as_wire_fault e)
 
 -- the bytes are the value's spelling, and it has no other
 abbrev pub IsSpelling : Declared → Shape → ValueView → List ℕ → Type 0

@@ -1,7 +1,9 @@
 -- The line that each fault of a packet's bytes is told by; out of memory has none. This project's own.
 use Rattle.std.specs.Prelude.{◌≡◌, ℕ, ◌+◌, List, ◌++◌, codes, decimal}
-use Rattle.tl_calls.specs.declared.fault.AnswerFault.{AnswerFault}
-use Rattle.tl_calls.specs.declared.fault.AnswerFault.TheVariants as answer
+use Rattle.tl_base.specs.declared.fault.Fault.{Fault}
+use Rattle.tl_base.specs.declared.fault.Fault.TheVariants as fault
+use Rattle.tl_decode.specs.declared.whole.WholeCause.{WholeCause}
+use Rattle.tl_decode.specs.declared.whole.WholeCause.TheVariants as whole
 use Rattle.tl_calls.specs.declared.fault.SendFault.{SendFault}
 use Rattle.tl_calls.specs.declared.fault.SendFault.TheVariants as send
 use Rattle.outside.specs.declared.stop.LoadError.{LoadError}
@@ -19,16 +21,16 @@ numbered_line what n line = (((what ++ codes " ") ++ decimal n) ++ codes " ") ++
 -- ---- faults
 
 -- the offset at which bytes are refused
-abbrev pub offset_in : AnswerFault → ℕ
-offset_in (answer.Refused place cause) = place
-offset_in (answer.Trailing place) = place
-offset_in answer.Memory = 0
+abbrev pub offset_in : Fault WholeCause → ℕ
+offset_in (fault.Refused (whole.Refused place cause)) = place
+offset_in (fault.Refused (whole.Trailing place)) = place
+offset_in fault.Memory = 0
 
 -- bytes after the first word of the packet at this offset are no value
-abbrev pub TellsUnread : ℕ → AnswerFault → LoadError → Type 0
-TellsUnread at (answer.Refused place cause) u = RefusesAs (input_line (at + (8 + place)) (cause_text cause)) u
-TellsUnread at (answer.Trailing place) u = RefusesAs (input_line (at + (8 + place)) (codes "Trailing")) u
-TellsUnread at answer.Memory u = u ≡ load_error.Memory
+abbrev pub TellsUnread : ℕ → Fault WholeCause → LoadError → Type 0
+TellsUnread at (fault.Refused (whole.Refused place cause)) u = RefusesAs (input_line (at + (8 + place)) (cause_text cause)) u
+TellsUnread at (fault.Refused (whole.Trailing place)) u = RefusesAs (input_line (at + (8 + place)) (codes "Trailing")) u
+TellsUnread at fault.Memory u = u ≡ load_error.Memory
 
 -- the call of the packet at this offset is not sent
 abbrev pub TellsUnsent : ℕ → SendFault → LoadError → Type 0

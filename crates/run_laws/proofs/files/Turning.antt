@@ -9,13 +9,14 @@ use Rattle.tl_base.specs.declared.host.Slot.TheVariants.{Input}
 use Rattle.tl_schema.specs.CheckedPrograms.{IsSchema}
 use Rattle.tl_schema.specs.Schemas.{Declared}
 use Rattle.tl_calls.specs.Events.{Logged}
+use Rattle.tl_base.specs.declared.packet.PacketCause.TheVariants.{BadLength, Ended}
 use Rattle.outside.specs.Answer.{Answer, done, refused, refused_after, write_fault_line}
 use Rattle.outside.specs.Kept.{AddsPrefix}
 use Rattle.outside.specs.declared.status.Status.{Status}
 use Rattle.outside.specs.declared.status.Status.TheVariants as statuses
 use Rattle.outside.specs.Events.{Event, Outside}
 use Rattle.outside.specs.Laws.{Happened, IsFailure, Throughout}
-use Rattle.outside.specs.Packets.{PacketView, whole, bad_length, TakesPacket}
+use Rattle.outside.specs.Packets.{PacketView, whole, wrong, TakesPacket}
 use Rattle.outside.specs.Packets as packets
 use Rattle.outside.specs.Pieces.{Tells, Writes}
 use Rattle.outside.specs.Printing.{Prints, Unread, after_output}
@@ -197,11 +198,11 @@ module _ (schema : Declared) where
         let (status, over, is) = last_is (Ends statuses.Done) (t ++ u) r h in
         let empty = both_none t u over.0 in
         at_end empty.1 (is ∙ ap leave over.1) (subst (λ (l : List Event). Throughout IsFileRead (taken ++ l)) (sym empty.0) (throughout_both IsFileRead taken [] are tt)) (packet_left Input taken packets.none a m takes fit)
-    after_to (bad_length n) t u r takes h g =
-        let left = packet_left Input taken (bad_length n) a m takes fit in
+    after_to (wrong (BadLength n)) t u r takes h g =
+        let left = packet_left Input taken (wrong (BadLength n)) a m takes fit in
         refusal_to x.at (codes "BadLength " ++ decimal n) t u r (reports.bad_length n (input_of m) left.0 left.2 left.1 refl refl) h g
-    after_to (packets.ended had) t u r takes h g =
-        let left = packet_left Input taken (packets.ended had) a m takes fit in
+    after_to (packets.wrong (Ended had)) t u r takes h g =
+        let left = packet_left Input taken (packets.wrong (Ended had)) a m takes fit in
         refusal_to x.at (codes "Ended " ++ decimal had) t u r (reports.ended left.0 left.2 refl (ap (λ (n : ℕ). codes "Ended " ++ decimal n) left.1)) h g
     after_to packets.broken t u r takes h g =
         let (status, lost, is) = last_is Unread (t ++ u) r h in

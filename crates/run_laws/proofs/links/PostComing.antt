@@ -2,8 +2,8 @@
 use Rattle.std.proofs.Common.{◌≡◌, ℕ, List, [], ◌∷◌, ◌++◌, length, Bool, true, false, refl, sym, ap, ◌∙◌, subst, inl, inr, arith, codes}
 use Rattle.tl_base.specs.Outside.{View, left_of, written_of}
 use Rattle.tl_base.specs.Packets.{packet}
-use Rattle.update_sessions.specs.declared.fault.PacketCause.{PacketCause}
-use Rattle.update_sessions.specs.declared.fault.PacketCause.TheVariants as faults
+use Rattle.tl_base.specs.declared.packet.PacketCause.{PacketCause}
+use Rattle.tl_base.specs.declared.packet.PacketCause.TheVariants as faults
 use Rattle.tl_base.specs.declared.host.Out.TheVariants as outs
 use Rattle.tl_base.specs.declared.host.Slot.TheVariants as slots
 use Rattle.wire_profile.specs.Indexes.{ProfileView}
@@ -21,12 +21,12 @@ use Rattle.outside.proofs.TakenPackets.{keeps_packet, whole_packet}
 use Rattle.outside.specs.Fits.{Fits}
 use Rattle.outside.proofs.Fitting.{fits_both, writes_append}
 use Rattle.outside.proofs.Sparing.{IsReading}
-use Rattle.fault_lines.specs.Packets.{ended_line, length_line}
+use Rattle.fault_lines.specs.Packets.{packet_line}
 use Rattle.fault_lines.specs.Messages.{wire_line}
 use Rattle.schema_files.specs.Lines.{json_line}
 use Rattle.schema_files.specs.declared.json_input.TheConstants.{JSON_BYTES}
 use Rattle.update_sessions.specs.Heard.{NoFrame}
-use Rattle.session_commands.specs.Lines.{long_call_line, packet_line}
+use Rattle.session_commands.specs.Lines.{long_call_line}
 use Rattle.session_commands.specs.Linked.{next_link, over_link}
 use Rattle.session_commands.specs.Post.{IsWordLong, Outcome, OfLink, OfSent, PostAnswer, answer_of, no_packet, packet_of, peer, shows}
 use Rattle.session_commands.specs.Post as answer
@@ -86,13 +86,13 @@ module _ (W : Type 0) where
     packet_heard (whole body) t u r s m n takes (o, of, h) f g c =
         came o (packet_of body (rest_of slots.Link m) (whole_packet slots.Link t body takes).0 (packet_left slots.Link t (whole body) s m takes f) of) (outcome_printed o u r m n h g c)
     packet_heard packets.none t u r s m n takes h f g c =
-        none_came (rest_of slots.Link s) (faults.Ended 0) (ended_line 0) u r m n (inl (packet_left slots.Link t packets.none s m takes f, refl)) tt refl h g c
-    packet_heard (packets.bad_length k) t u r s m n takes h f g c =
-        let left = packet_left slots.Link t (packets.bad_length k) s m takes f in
-        none_came (rest_of slots.Link s) (faults.BadLength k) (length_line k) u r m n (inr (rest_of slots.Link m, left.2, left.1)) left.0 refl h g c
-    packet_heard (packets.ended had) t u r s m n takes h f g c =
-        let left = packet_left slots.Link t (packets.ended had) s m takes f in
-        none_came (rest_of slots.Link s) (faults.Ended had) (ended_line had) u r m n (inr (sym left.1, omega (arith, left.0, left.1), left.2)) tt refl h g c
+        none_came (rest_of slots.Link s) (faults.Ended 0) (packet_line (faults.Ended 0)) u r m n (inl (packet_left slots.Link t packets.none s m takes f, refl)) tt refl h g c
+    packet_heard (packets.wrong (faults.BadLength k)) t u r s m n takes h f g c =
+        let left = packet_left slots.Link t (packets.wrong (faults.BadLength k)) s m takes f in
+        none_came (rest_of slots.Link s) (faults.BadLength k) (packet_line (faults.BadLength k)) u r m n (inr (rest_of slots.Link m, left.2, left.1)) left.0 refl h g c
+    packet_heard (packets.wrong (faults.Ended had)) t u r s m n takes h f g c =
+        let left = packet_left slots.Link t (packets.wrong (faults.Ended had)) s m takes f in
+        none_came (rest_of slots.Link s) (faults.Ended had) (packet_line (faults.Ended had)) u r m n (inr (sym left.1, omega (arith, left.0, left.1), left.2)) tt refl h g c
     packet_heard packets.broken t u r s m n takes h f g c = link_lost (rest_of slots.Link s) u r m n h g c
 
     heard_later : (given : List ℕ) (r : Status) (s m n : Outside) → OnlySlots s m → Heard given r m n → Heard given r s n

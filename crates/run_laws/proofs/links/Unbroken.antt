@@ -6,7 +6,7 @@ use Rattle.tl_base.specs.Kinds.{slot_kind}
 use Rattle.tl_base.specs.Outside.{left_of}
 use Rattle.tl_base.specs.declared.host.Out.TheVariants as outs
 use Rattle.tl_base.specs.declared.host.Slot.TheVariants.{Link}
-use Rattle.update_sessions.specs.declared.fault.PacketCause.TheVariants.{BadLength, Ended}
+use Rattle.tl_base.specs.declared.packet.PacketCause.TheVariants.{BadLength, Ended}
 use Rattle.box_events.specs.declared.replies.Frame.{Frame}
 use Rattle.box_client.specs.Asking.{ticks, wakes, is_one_asking}
 use Rattle.box_client.specs.States.{ClientState}
@@ -129,8 +129,7 @@ module _ (p : ProfileView) where
   packet_more : (c d : ClientState) (v : PacketView) (t u : List Event) (a m b : Outside) → TakesPacket Link t v → after_packet p c v u (Ok d) → Fits t a m → Fits u m b → OneMore c d a b
   packet_more c d (whole bytes) t u a m b takes h f g = heard_more c d bytes t u a m b takes h f g
   packet_more c d packets.none t u a m b takes h f g = absurd (let not : ◌≡◌ {A = Outcome} (Ok d) (Err (session.Packet (Ended 0))) = h.1 in cc)
-  packet_more c d (packets.bad_length n) t u a m b takes h f g = absurd (let not : ◌≡◌ {A = Outcome} (Ok d) (Err (session.Packet (BadLength n))) = h.1 in cc)
-  packet_more c d (packets.ended had) t u a m b takes h f g = absurd (let not : ◌≡◌ {A = Outcome} (Ok d) (Err (session.Packet (Ended had))) = h.1 in cc)
+  packet_more c d (packets.wrong cause) t u a m b takes h f g = absurd (let not : ◌≡◌ {A = Outcome} (Ok d) (Err (session.Packet cause)) = h.1 in cc)
   packet_more c d packets.broken t u a m b takes h f g = absurd (let not : ◌≡◌ {A = Outcome} (Ok d) (Err session.LinkFault) = h.1 in cc)
 
   next_more : (c d : ClientState) (t : List Event) (a b : Outside) → HearsNext p c t (Ok d) → Fits t a b → OneMore c d a b
@@ -214,8 +213,7 @@ module _ (p : ProfileView) where
           let kept = fits_keeps t m k f in
           bytes_never u n fault bytes t v m k b lost so less takes h f g (kept.room ∙ same) (reliable_on m k kept steady)
       packet_never u n fault packets.none t v m k b lost so less takes h f g same steady = lost_as fault (session.Packet (Ended 0)) h.1 lost
-      packet_never u n fault (packets.bad_length j) t v m k b lost so less takes h f g same steady = lost_as fault (session.Packet (BadLength j)) h.1 lost
-      packet_never u n fault (packets.ended had) t v m k b lost so less takes h f g same steady = lost_as fault (session.Packet (Ended had)) h.1 lost
+      packet_never u n fault (packets.wrong cause) t v m k b lost so less takes h f g same steady = lost_as fault (session.Packet cause) h.1 lost
       packet_never u n fault packets.broken t v m k b lost so less takes h f g same steady =
           taken_never (slot_kind Link) t m k f steady (keeps_packet Link IsTaking (λ _. tt) tt tt t packets.broken takes) (broken_packet Link t takes)
 

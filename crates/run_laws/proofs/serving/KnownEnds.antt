@@ -7,7 +7,7 @@ use Rattle.box_server.specs.Servers.{ServerState}
 use Rattle.wire_profile.specs.Indexes.{ProfileView}
 use Rattle.fault_lines.specs.Answers.{answer_line}
 use Rattle.fault_lines.specs.Messages.{wire_line}
-use Rattle.fault_lines.specs.Packets.{length_line, ended_line}
+use Rattle.tl_base.specs.declared.packet.PacketCause.TheVariants.{BadLength, Ended}
 use Rattle.outside.specs.Events.{Event, Outside}
 use Rattle.outside.specs.Packets.{PacketView, whole, TakesPacket}
 use Rattle.outside.specs.Packets as packets
@@ -17,7 +17,7 @@ use Rattle.update_sessions.specs.declared.fault.SessionFault.{SessionFault}
 use Rattle.update_sessions.specs.declared.fault.SessionFault.TheVariants as session
 use Rattle.update_sessions.specs.declared.fault.TheConstants.{MAX_FRAMES}
 use Rattle.update_sessions.specs.Serving.{after_request}
-use Rattle.session_commands.specs.Lines.{packet_line}
+use Rattle.fault_lines.specs.Packets.{packet_line}
 use Rattle.session_commands.specs.Serve.{SessionEnd, served, peer_fault, link_fault, IsShortEnd, end_of}
 use Rattle.session_commands.specs.SessionEnds.{many_frames_line}
 use Rattle.session_rooms.proofs.LeftPackets.{packet_left}
@@ -63,8 +63,8 @@ module _ (p : ProfileView) where
   packet_known : (s : ServerState) (v : PacketView) (t : List Event) (u : List Act) (r : Answered) (a m : Outside) → TakesPacket Link t v → Fits t a m → after_packet p s v u r → CanEnd r
   packet_known s (whole bytes) t u r a m takes f h = bytes_known s bytes u r h
   packet_known s packets.none t u r a m takes f h = subst CanEnd (sym h.1) tt
-  packet_known s (packets.bad_length n) t u r a m takes f h = subst CanEnd (sym h.1) (record { word = (packet_left Link t (packets.bad_length n) a m takes f).0; ends = peer_fault (length_line n); is = refl })
-  packet_known s (packets.ended had) t u r a m takes f h = subst CanEnd (sym h.1) (record { word = tt; ends = peer_fault (ended_line had); is = refl })
+  packet_known s (packets.wrong (BadLength n)) t u r a m takes f h = subst CanEnd (sym h.1) (record { word = (packet_left Link t (packets.wrong (BadLength n)) a m takes f).0; ends = peer_fault (packet_line (BadLength n)); is = refl })
+  packet_known s (packets.wrong (Ended had)) t u r a m takes f h = subst CanEnd (sym h.1) (record { word = tt; ends = peer_fault (packet_line (Ended had)); is = refl })
   packet_known s packets.broken t u r a m takes f h = subst CanEnd (sym h.1) broken_known
 
   next_known : (s : ServerState) (t : List Act) (r : Answered) (a b : Outside) → AnswersNext p s t r → Fits (events_in t) a b → CanEnd r

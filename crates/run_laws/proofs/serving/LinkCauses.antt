@@ -2,7 +2,7 @@
 use Rattle.std.proofs.Common.{◌≡◌, ℕ, ◌+◌, ltb, List, ◌++◌, Bool, true, false, Ok, Err, sym, subst}
 use Rattle.tl_base.specs.declared.counts.Kind.TheVariants as kinds
 use Rattle.tl_base.specs.declared.host.Slot.TheVariants as slots
-use Rattle.update_sessions.specs.declared.fault.PacketCause.TheVariants.{BadLength, Ended}
+use Rattle.tl_base.specs.declared.packet.PacketCause.TheVariants.{BadLength, Ended}
 use Rattle.box_events.specs.declared.requests.Numbered.{Numbered}
 use Rattle.box_server.specs.Servers.{ServerState}
 use Rattle.wire_profile.specs.Indexes.{ProfileView}
@@ -90,8 +90,7 @@ module _ (p : ProfileView) where
   packet_cause : (s : ServerState) (m : PacketView) (r : Answered) (t u : List Act) → Hosted (TakesPacket slots.Link) t m → after_packet p s m u r → IsCaused r (t ++ u)
   packet_cause s (whole bytes) r t u taken h = caused_last r t u (bytes_cause s bytes r u h)
   packet_cause s packets.none r t u taken h = subst (λ (a : Answered). IsCaused a (t ++ u)) (sym h.1) tt
-  packet_cause s (packets.bad_length n) r t u taken h = subst (λ (a : Answered). IsCaused a (t ++ u)) (sym h.1) (λ same. absurd (packet_other (BadLength n) same))
-  packet_cause s (packets.ended had) r t u taken h = subst (λ (a : Answered). IsCaused a (t ++ u)) (sym h.1) (λ same. absurd (packet_other (Ended had) same))
+  packet_cause s (packets.wrong cause) r t u taken h = subst (λ (a : Answered). IsCaused a (t ++ u)) (sym h.1) (λ same. absurd (packet_other cause same))
   packet_cause s packets.broken r t u (events, is, taken) h = subst (λ (a : Answered). IsCaused a (t ++ u)) (sym h.1) (λ _. link_first t u (subst LinkFailed (sym (hosted_events t events is)) (broken_packet slots.Link events taken)))
 
   answer_cause : (s : ServerState) (r : Answered) (t : List Act) → AnswersNext p s t r → IsCaused r t

@@ -7,7 +7,7 @@ use Rattle.tl_base.specs.Outside.{last_or, left_of, written_of}
 use Rattle.tl_base.specs.declared.counts.Kind.TheVariants as kinds
 use Rattle.tl_base.specs.declared.host.Out.TheVariants as outs
 use Rattle.tl_base.specs.declared.host.Slot.TheVariants.{Link}
-use Rattle.update_sessions.specs.declared.fault.PacketCause.TheVariants.{BadLength, Ended}
+use Rattle.tl_base.specs.declared.packet.PacketCause.TheVariants.{BadLength, Ended}
 use Rattle.box_events.specs.declared.requests.Numbered.{Numbered}
 use Rattle.box_server.specs.Servers.{ServerState, dated_at}
 use Rattle.box_server.specs.declared.entry.Entry.{Entry}
@@ -121,8 +121,7 @@ module _ (p : ProfileView) where
       let stays : parts.0 ≡ m = fits_none h.first m parts.0 (adds_silent (kept_for u c.request) h.first h.between h.does) parts.1 in
       added_one u x c h.between h.rest k m j (came_first bytes c t k m takes means f) (taking_sent t (whole bytes) k m takes f) h.goes (subst (λ (o : Outside). Fits (events_in h.rest) o j) stays parts.2)
   packet_one u x packets.none t w k m j takes h f g = absurd (let no : goes_on x ≡ has_ended u = h.1 in cc)
-  packet_one u x (packets.bad_length n) t w k m j takes h f g = absurd (let no : goes_on x ≡ fails u (session.Packet (BadLength n)) = h.1 in cc)
-  packet_one u x (packets.ended had) t w k m j takes h f g = absurd (let no : goes_on x ≡ fails u (session.Packet (Ended had)) = h.1 in cc)
+  packet_one u x (packets.wrong cause) t w k m j takes h f g = absurd (let no : goes_on x ≡ fails u (session.Packet cause) = h.1 in cc)
   packet_one u x packets.broken t w k m j takes h f g = absurd (let no : goes_on x ≡ fails u session.LinkFault = h.1 in cc)
 
   next_one : (u x : ServerState) (t : List Act) (k j : Outside) → AnswersNext p u t (goes_on x) → Fits (events_in t) k j → OneCall u x k j
@@ -208,8 +207,7 @@ module _ (p : ProfileView) where
       let stays : parts.0 ≡ m = fits_none h.first m parts.0 (adds_silent (kept_for u c.request) h.first h.between h.does) parts.1 in
       added_cut u x c h.between h.rest k m j (came_first bytes c t k m takes means f) (taking_sent t (whole bytes) k m takes f) kept.room (reliable_on k m kept reliable) h.goes (subst (λ (o : Outside). Fits (events_in h.rest) o j) stays parts.2)
   packet_cut u x packets.none t w k m j takes h f g reliable = absurd (let no : fails x session.LinkFault ≡ has_ended u = h.1 in cc)
-  packet_cut u x (packets.bad_length n) t w k m j takes h f g reliable = absurd (let one : session.LinkFault ≡ session.Packet (BadLength n) = (let same : fails x session.LinkFault ≡ fails u (session.Packet (BadLength n)) = h.1 in cc) in cc)
-  packet_cut u x (packets.ended had) t w k m j takes h f g reliable = absurd (let one : session.LinkFault ≡ session.Packet (Ended had) = (let same : fails x session.LinkFault ≡ fails u (session.Packet (Ended had)) = h.1 in cc) in cc)
+  packet_cut u x (packets.wrong cause) t w k m j takes h f g reliable = absurd (let one : session.LinkFault ≡ session.Packet cause = (let same : fails x session.LinkFault ≡ fails u (session.Packet cause) = h.1 in cc) in cc)
   packet_cut u x packets.broken t w k m j takes h f g reliable = absurd (taken_never t k m f reliable (keeps_packet Link IsTaken (λ _. tt) tt tt t packets.broken takes) (broken_packet Link t takes))
 
   next_cut : (u x : ServerState) (t : List Act) (k j : Outside) → AnswersNext p u t (fails x session.LinkFault) → Fits (events_in t) k j → IsReliable k → Cut u k

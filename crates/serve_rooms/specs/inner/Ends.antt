@@ -1,13 +1,13 @@
 -- What calls answer: the step's answer, or none where memory ran out. This project's own.
 use Rattle.std.specs.Prelude.{◌≡◌, ℕ, Option, Some, None, option_map, Result, Ok, Err}
-use Rattle.update_sessions.specs.declared.fault.PacketCause.TheVariants as packet
+use Rattle.tl_base.specs.declared.packet.PacketCause.TheVariants as packet
 use Rattle.box_server.specs.Servers.{ServerState}
 use Rattle.box_server.specs.declared.store_fault.KeepFault.{KeepFault}
 use Rattle.box_server.specs.declared.store_fault.KeepFault.TheVariants.{Failed, Memory}
 use Rattle.box_server.specs.declared.store_fault.OpenFault.{OpenFault}
 use Rattle.box_server.specs.declared.store_fault.OpenFault.TheVariants as opening
 use Rattle.outside.specs.declared.status.Status.{Status}
-use Rattle.outside.specs.Packets.{PacketView, whole, none, bad_length, ended, broken}
+use Rattle.outside.specs.Packets.{PacketView, whole, none, wrong, broken}
 use Rattle.outside.specs.declared.status.Status.TheVariants.{Refused}
 use Rattle.outside.specs.Begun.{Did}
 use Rattle.outside.specs.Events.{HostState}
@@ -31,8 +31,7 @@ use Rattle.serve_rooms.specs.declared.telling.Tally.{Tally}
 abbrev pub outcome_at : PacketView → Outcome
 outcome_at (whole content) = outcome.Answered
 outcome_at none = outcome.Ended
-outcome_at (bad_length n) = outcome.Failed (Packet (packet.BadLength n))
-outcome_at (ended had) = outcome.Failed (Packet (packet.Ended had))
+outcome_at (wrong cause) = outcome.Failed (Packet cause)
 outcome_at broken = outcome.Failed LinkFault
 
 abbrev pub answered_as : ServerState → Outcome → Answered

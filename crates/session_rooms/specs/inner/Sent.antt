@@ -1,19 +1,11 @@
 -- What the parts of `post` do. This project's own.
-use Rattle.std.specs.Prelude.{◌≡◌, ℕ, List, Option, Result, Ok, Err}
-use Rattle.update_sessions.specs.declared.fault.PacketCause.{PacketCause}
-use Rattle.update_sessions.specs.declared.fault.PacketCause.TheVariants.{BadLength, Ended}
+use Rattle.std.specs.Prelude.{◌≡◌, ℕ, List, Result, Ok, Err}
 use Rattle.tl_schema.specs.Types.{call}
 use Rattle.tl_types.specs.Values.{ValueView}
 use Rattle.tl_types.specs.Spelling.{Spells}
 use Rattle.wire_profile.specs.Indexes.{ProfileView}
 use Rattle.outside.specs.Loading.{Refuses}
-use Rattle.outside.specs.declared.status.Status.{Status}
-use Rattle.outside.specs.declared.status.Status.TheVariants.{PeerFault}
 use Rattle.outside.specs.declared.stop.LoadError.{LoadError}
-use Rattle.fault_lines.specs.Packets.{length_line, ended_line}
-use Rattle.outside.specs.Events.{HostState}
-use Rattle.outside.specs.Pieces.{Tells}
-use Rattle.outside.specs.Begun.{DidIn, to_link}
 use Rattle.schema_files.specs.Causes.{JsonCause}
 use Rattle.schema_files.specs.JsonInput.{IsJsonOf, JsonRefused}
 use Rattle.schema_files.specs.Lines.{json_line}
@@ -36,8 +28,3 @@ pub data TellsNothing (p : ProfileView) (text line : List ℕ) : Type 0 where
 abbrev pub MakesCall : ProfileView → List ℕ → Result Sending LoadError → Type 0
 MakesCall p text (Ok s) = (x : ValueView) × IsJsonOf p.schema call text x × Spells p.schema call x s.bytes × MaySendCall p s.bytes s.number
 MakesCall p text (Err fault) = Refuses (TellsNothing p text) fault
-
--- what came is told, which begins with no packet
-abbrev pub TellsNoPacket : PacketCause → HostState → HostState → Option Status → Type 0
-TellsNoPacket (BadLength n) q r answer = DidIn to_link (Tells (length_line n) PeerFault) q r answer
-TellsNoPacket (Ended had) q r answer = DidIn to_link (Tells (ended_line had) PeerFault) q r answer

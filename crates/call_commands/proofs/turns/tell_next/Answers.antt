@@ -13,7 +13,7 @@ use Rattle.outside.proofs.TakenPackets.{packet_fits}
 use Rattle.call_commands.specs.CallsWork.{so_far}
 use Rattle.call_commands.specs.declared.turns.Turn.TheVariants.{Last}
 use Rattle.call_commands.proofs.Going.{did_last, open_results, take_stopped}
-use Rattle.call_commands.proofs.Taking.{bad_turn, cut_turn, refused_goes, taken_turn}
+use Rattle.call_commands.proofs.Taking.{refused_goes, taken_turn, wrong_turn}
 use Rattle.call_commands.proofs.turns.tell_next.Goals as goal
 
 pub returns-in_err-content-clause-does : goal.returns-in_err-content-clause-does
@@ -31,17 +31,11 @@ pub returns-in-None-clause-does : goal.returns-in-None-clause-does
 returns-in-None-clause-does g c = λ past stands.
     taken_turn c.args.schema.now c.args.calls.now past c.args.at _ _ _ c.in_ok-content.field-0 taken.none (Ok (Last Done)) (ap packet_view c.in-None.is) c.in_ok-content.ensures (did_last (Ends Done) _ _ Done (did_nothing _ Done))
 
-pub returns-in-BadLength-clause-does : goal.returns-in-BadLength-clause-does
-returns-in-BadLength-clause-does g c = λ past stands.
+pub returns-in-Wrong-clause-does : goal.returns-in-Wrong-clause-does
+returns-in-Wrong-clause-does g c = λ past stands.
     let S = c.args.schema.now in
-    taken_turn S c.args.calls.now past c.args.at _ _ _ c.in_ok-content.field-0 (taken.bad_length c.in-BadLength.length) c.refuse.result (ap packet_view c.in-BadLength.is) c.in_ok-content.ensures
-    (bad_turn S c.args.calls.now past c.args.at _ _ c.in-BadLength.length c.unpacked.result c.refuse.result c.unpacked.ensures c.refuse.ensures)
-
-pub returns-in-Ended-clause-does : goal.returns-in-Ended-clause-does
-returns-in-Ended-clause-does g c = λ past stands.
-    let S = c.args.schema.now in
-    taken_turn S c.args.calls.now past c.args.at _ _ _ c.in_ok-content.field-0 (taken.ended c.in-Ended.had) c.refuse-in-Ended.result (ap packet_view c.in-Ended.is) c.in_ok-content.ensures
-    (cut_turn S c.args.calls.now past c.args.at _ _ c.in-Ended.had c.unpacked-in-Ended.result c.refuse-in-Ended.result c.unpacked-in-Ended.ensures c.refuse-in-Ended.ensures)
+    taken_turn S c.args.calls.now past c.args.at _ _ _ c.in_ok-content.field-0 (taken.wrong c.in-Wrong.cause) c.refuse.result (ap packet_view c.in-Wrong.is) c.in_ok-content.ensures
+    (wrong_turn S c.args.calls.now past c.args.at _ _ c.in-Wrong.cause c.unpacked.result c.refuse.result c.unpacked.ensures c.refuse.ensures)
 
 pub returns-in-Broken-clause-does : goal.returns-in-Broken-clause-does
 returns-in-Broken-clause-does g c = λ past stands.
@@ -51,8 +45,5 @@ pub tell_whole-requires-clause-whole : goal.tell_whole-requires-clause-whole
 tell_whole-requires-clause-whole g c =
     subst (λ (x : List ℕ). IsPacketLength (length x)) (sym c.deref.ensures.value) (packet_fits Input _ _ c.in_ok-content.field-0 c.in-Whole.content c.in-Whole.is c.in_ok-content.ensures)
 
-pub returns-in-BadLength-clause-on : goal.returns-in-BadLength-clause-on
-returns-in-BadLength-clause-on g c = refused_goes c.args.at c.args.calls.now c.args.calls.now (of_fault c.unpacked.result) _ _ c.refuse.result c.refuse.ensures
-
-pub returns-in-Ended-clause-on : goal.returns-in-Ended-clause-on
-returns-in-Ended-clause-on g c = refused_goes c.args.at c.args.calls.now c.args.calls.now (of_fault c.unpacked-in-Ended.result) _ _ c.refuse-in-Ended.result c.refuse-in-Ended.ensures
+pub returns-in-Wrong-clause-on : goal.returns-in-Wrong-clause-on
+returns-in-Wrong-clause-on g c = refused_goes c.args.at c.args.calls.now c.args.calls.now (of_fault c.unpacked.result) _ _ c.refuse.result c.refuse.ensures

@@ -24,11 +24,8 @@ returns-in-Whole-clause-hears g c =
 pub returns-in-None-clause-hears : goal.returns-in-None-clause-hears
 returns-in-None-clause-hears g c = did_then_at _ (after_packet c.args.profile.now c.args.client.now) _ _ _ (packet_view c.in_ok-bytes.field-0) packets.none _ (ap packet_view c.in-None.is) (may_packet Link to_link) (did_any _ _ _ _ c.in_ok-bytes.ensures) (did_nothing _ _)
 
-pub returns-in-BadLength-clause-hears : goal.returns-in-BadLength-clause-hears
-returns-in-BadLength-clause-hears g c = did_then_at _ (after_packet c.args.profile.now c.args.client.now) _ _ _ (packet_view c.in_ok-bytes.field-0) (packets.bad_length c.in-BadLength.length) _ (ap packet_view c.in-BadLength.is) (may_packet Link to_link) (did_any _ _ _ _ c.in_ok-bytes.ensures) (did_nothing _ _)
-
-pub returns-in-Ended-clause-hears : goal.returns-in-Ended-clause-hears
-returns-in-Ended-clause-hears g c = did_then_at _ (after_packet c.args.profile.now c.args.client.now) _ _ _ (packet_view c.in_ok-bytes.field-0) (packets.ended c.in-Ended.had) _ (ap packet_view c.in-Ended.is) (may_packet Link to_link) (did_any _ _ _ _ c.in_ok-bytes.ensures) (did_nothing _ _)
+pub returns-in-Wrong-clause-hears : goal.returns-in-Wrong-clause-hears
+returns-in-Wrong-clause-hears g c = did_then_at _ (after_packet c.args.profile.now c.args.client.now) _ _ _ (packet_view c.in_ok-bytes.field-0) (packets.wrong c.in-Wrong.cause) _ (ap packet_view c.in-Wrong.is) (may_packet Link to_link) (did_any _ _ _ _ c.in_ok-bytes.ensures) (did_nothing _ _)
 
 pub returns-in-Broken-clause-hears : goal.returns-in-Broken-clause-hears
 returns-in-Broken-clause-hears g c = did_then_at _ (after_packet c.args.profile.now c.args.client.now) _ _ _ (packet_view c.in_ok-bytes.field-0) packets.broken _ (ap packet_view c.in-Broken.is) (may_packet Link to_link) (did_any _ _ _ _ c.in_ok-bytes.ensures) (did_nothing _ _)

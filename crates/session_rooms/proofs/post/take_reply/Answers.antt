@@ -21,11 +21,8 @@ returns-in-Whole g c = did_then_at _ (after_packet c.args.profile.now c.args.num
 pub returns-in-None : goal.returns-in-None
 returns-in-None g c = did_then_at _ (after_packet c.args.profile.now c.args.number) _ _ _ (packet_view c.in_ok-body.field-0) packets.none _ (ap packet_view c.in-None.is) (may_packet Link to_link) (did_any _ _ _ _ c.in_ok-body.ensures) c.tell_packet.ensures
 
-pub returns-in-BadLength : goal.returns-in-BadLength
-returns-in-BadLength g c = did_then_at _ (after_packet c.args.profile.now c.args.number) _ _ _ (packet_view c.in_ok-body.field-0) (packets.bad_length c.in-BadLength.length) _ (ap packet_view c.in-BadLength.is) (may_packet Link to_link) (did_any _ _ _ _ c.in_ok-body.ensures) c.tell_packet-in-BadLength.ensures
-
-pub returns-in-Ended : goal.returns-in-Ended
-returns-in-Ended g c = did_then_at _ (after_packet c.args.profile.now c.args.number) _ _ _ (packet_view c.in_ok-body.field-0) (packets.ended c.in-Ended.had) _ (ap packet_view c.in-Ended.is) (may_packet Link to_link) (did_any _ _ _ _ c.in_ok-body.ensures) c.tell_packet-in-Ended.ensures
+pub returns-in-Wrong : goal.returns-in-Wrong
+returns-in-Wrong g c = did_then_at _ (after_packet c.args.profile.now c.args.number) _ _ _ (packet_view c.in_ok-body.field-0) (packets.wrong c.in-Wrong.cause) _ (ap packet_view c.in-Wrong.is) (may_packet Link to_link) (did_any _ _ _ _ c.in_ok-body.ensures) c.tell_packet-in-Wrong.ensures
 
 pub returns-in-Broken : goal.returns-in-Broken
 returns-in-Broken g c = did_then_at _ (after_packet c.args.profile.now c.args.number) _ _ _ (packet_view c.in_ok-body.field-0) packets.broken _ (ap packet_view c.in-Broken.is) (may_packet Link to_link) (did_any _ _ _ _ c.in_ok-body.ensures) (did_any _ _ _ _ c.tell.ensures)

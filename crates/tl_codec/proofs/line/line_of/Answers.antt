@@ -8,4 +8,4 @@ returns-in-Ok-line_by c = (view c.in-Ok.value, c.in-Ok.ensures.whole.0, c.in-Ok.
 
 pub returns : goal.returns
 returns c =
-    fault_told c.args.schema.now (shape c.args.of.now) c.args.bytes.now c.in-Err.fault c.input_error.result c.in-Err.ensures.unread c.in-Err.ensures.whole c.input_error.ensures.tells
+    fault_told c.args.schema.now (shape c.args.of.now) c.args.bytes.now c.in-Err.fault c.input_error.result c.in-Err.ensures.whole c.input_error.ensures.tells
