@@ -28,7 +28,7 @@ use Rattle.codec_commands.specs.Decode.{OfInput, whole, longer, faulty, DecodeAn
 use Rattle.schema_files.specs.JsonInput.{IsJson}
 use Rattle.codec_commands.specs.Encode.{OfJson, too_long, no_json, badly_formed, misfit, spelled, EncodeAnswer}
 use Rattle.schema_files.specs.declared.json_input.TheConstants.{JSON_BYTES}
-use Rattle.schema_files.proofs.FormedWords.{word_formed}
+use Rattle.tl_schema.proofs.AskedFormed.{text_formed}
 use Rattle.schema_files.proofs.Answering.{each_of_file}
 use Rattle.schema_files.proofs.OneTypeName.{type_or_refused}
 use Rattle.schema_files.proofs.TypePlans.{plan_or_refused}
@@ -48,7 +48,7 @@ module _ (Tells : ToInput) (each_input : TellsEach Tells) (files : Files) (good 
   each_type : (type input : List ℕ) → IsFile files input → (schema : Declared) → IsSchema schema → (a : Answer) × OfType Tells schema type input files a
   each_type type input (bytes, has) schema sound = elim (type_or_refused schema type) [
     | inl (s, means) ↦ elim (plan_or_refused schema s) [
-      | inl plan ↦ (let tells = each_input schema sound s (word_formed schema sound type s means) bytes (file_bytes files input bytes good has) in (tells.0, typed s bytes means plan has tells.1))
+      | inl plan ↦ (let tells = each_input schema sound s (text_formed schema sound type s means) bytes (file_bytes files input bytes good has) in (tells.0, typed s bytes means plan has tells.1))
       | inr (cause, none) ↦ (_, no_plan s cause means none refl)
     ]
     | inr (cause, r) ↦ (_, no_type cause r refl)

@@ -7,7 +7,7 @@ use Rattle.tl_schema.specs.Formed.{IsFormed}
 use Rattle.tl_schema.specs.Types.{Shape}
 use Rattle.tl_schema.specs.Schemas.{Declared}
 use Rattle.outside.specs.Answer.{Answer}
-use Rattle.schema_files.proofs.FormedWords.{word_formed}
+use Rattle.tl_schema.proofs.AskedFormed.{text_formed}
 use Rattle.schema_files.proofs.Answering.{each_of_file}
 use Rattle.schema_files.proofs.OneTypeName.{type_or_refused}
 use Rattle.tl_layers.proofs.EachBreaks.{each_is_unbroken_or_breaks}
@@ -25,7 +25,7 @@ each_told old good T formed new sound =
 each_type : (files : Files) (type new : List ℕ) → IsFile files new → (old : Declared) → IsSchema old → (a : Answer) × OfType old type new files a
 each_type files type new file old good = elim (type_or_refused old type) [
   | inl (T, means) ↦ (
-      let tells = each_of_file (codes "new") (λ S. OfLayers old S T) (each_told old good T (word_formed old good type T means)) files new file in
+      let tells = each_of_file (codes "new") (λ S. OfLayers old S T) (each_told old good T (text_formed old good type T means)) files new file in
       (tells.0, typed T means tells.1)
       )
   | inr (cause, r) ↦ (_, no_type cause r refl)

@@ -13,7 +13,7 @@ use Rattle.schema_files.specs.Causes.{PlanCause}
 use Rattle.schema_files.specs.Lines.{type_line, plan_line}
 use Rattle.codec_commands.specs.Typed.{ToInput, OfType, no_type, no_plan, typed, TypedAnswer}
 use Rattle.schema_files.proofs.Answering.{one_of_file}
-use Rattle.schema_files.proofs.FormedWords.{word_formed}
+use Rattle.tl_schema.proofs.AskedFormed.{text_formed}
 use Rattle.schema_files.proofs.OneTypeName.{one_type_cause, never_type}
 use Rattle.schema_files.specs.Loaded.{HasPlan, PlanRefused}
 use Rattle.schema_files.proofs.TypePlans.{one_plan_cause, never_plan}
@@ -40,7 +40,7 @@ module _ (Tells : ToInput) (one_input : TellsOne Tells) (files : Files) where
       let same : u ≡ s = one_meaning schema.program type u s also means in
       let contents : more ≡ bytes = same_file files input more bytes holds has in
       let there = subst (λ (x : Shape). Tells schema x bytes c) same (subst (λ (z : List ℕ). Tells schema u z c) contents says) in
-      one_input schema good s (word_formed schema good type s means) bytes a c tells there
+      one_input schema good s (text_formed schema good type s means) bytes a c tells there
 
   pub one_typed : (s t i : List ℕ) (a c : Answer) → TypedAnswer Tells files s t i a → TypedAnswer Tells files s t i c → a ≡ c
   one_typed s t i = one_of_file (codes "schema") (λ S. OfType Tells S t i files) (one_type t i) files s

@@ -1,11 +1,13 @@
 -- What `check` answers: the list of the schema's declarations, or where and why its text is refused. This project's own.
-use Rattle.std.specs.Prelude.{◌≡◌, ℕ, List, [], ◌++◌, codes, decimal, flat_map, Bool, not, ◌&&◌, is_some, if◌then◌else◌}
+use Rattle.std.specs.Prelude.{◌≡◌, ℕ, List, [], ◌++◌, codes, decimal, flat_map, Bool, true, false, not, ◌&&◌, Option, Some, None, if◌then◌else◌}
 use Rattle.std.specs.List.{count_by}
 use Rattle.std.specs.Int.{w32, to_be_bytes}
 use Rattle.hex.specs.Hex.{encode_lower}
 use Rattle.tl_base.specs.Contents.{Files}
+use Rattle.tl_program.specs.BuiltIns.{built_in}
+use Rattle.tl_program.specs.declared.built_in.BuiltIn.{BuiltIn}
+use Rattle.tl_program.specs.declared.built_in.BuiltIn.TheVariants.{Vector}
 use Rattle.tl_schema.specs.Schemas.{Declaration}
-use Rattle.tl_schema.specs.Meanings.{base_shape}
 use Rattle.schema_files.specs.Answering.{OfSchemaFile}
 use Rattle.outside.specs.Answer.{Answer, done}
 use Rattle.outside.specs.Jobs.{Job, unlinked_job}
@@ -13,9 +15,15 @@ use Rattle.outside.specs.Kept.{KeepsUnread}
 
 -- ---- the list
 
+-- by the built-in name that a declaration has, if it has one
+abbrev pub has_line : Option BuiltIn → Bool
+has_line None = true
+has_line (Some Vector) = true
+has_line (Some other) = false
+
 -- all but the lines of built-in types, of which that of `vector` is listed; no other declaration has one of their names
 abbrev pub is_listed : Declaration → Bool
-is_listed e = not (is_some (base_shape e.name))
+is_listed e = has_line (built_in e.name)
 
 -- the number as eight hexadecimal digits, and the name
 abbrev pub entry_line : Declaration → List ℕ

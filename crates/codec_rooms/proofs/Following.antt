@@ -6,7 +6,7 @@ use Rattle.tl_schema.specs.Schemas.{Declared}
 use Rattle.tl_schema.specs.Types.{Shape}
 use Rattle.outside.specs.Steps.{Begins}
 use Rattle.schema_files.specs.declared.json_input.TheConstants.{JSON_BYTES}
-use Rattle.schema_files.proofs.FormedWords.{word_formed}
+use Rattle.tl_schema.proofs.AskedFormed.{text_formed}
 use Rattle.codec_commands.specs.Encode.{OfJson}
 use Rattle.codec_rooms.specs.Decode.{OfBytes}
 use Rattle.codec_rooms.specs.Typed.{OfInput}
@@ -24,4 +24,4 @@ can_type purpose.Encode input schema good s formed = can_plan (OfInput OfJson in
 can_type purpose.Compare input schema good s formed = can_file schema good s formed input
 
 pub can_follow : (p : Purpose) (word input : List ℕ) (schema : Declared) → IsSchema schema → Begins (asked_by p word input schema) []
-can_follow p word input schema good = can_asked (of_type p input) schema word (λ s is. can_type p input schema good s (word_formed schema good word s is))
+can_follow p word input schema good = can_asked (of_type p input) schema word (λ s is. can_type p input schema good s (text_formed schema good word s is))

@@ -1,4 +1,3 @@
-pub mod FormedWords
 pub mod OneFault
 pub mod OneText
 pub mod OneSchemaText

@@ -2,12 +2,15 @@
 use Rattle.std.proofs.Common.{◌≡◌, ◌⊎◌, inl, inr, ℕ, zero, suc, ◌+◌, ◌<◌, ◌&&◌, not, Bool, true, false, cond, List, [], ◌∷◌, length, map, get_or, slice_get, bytes_eq, Option, Some, None, flat_map, count_by, refl, ap, sym, ◌∙◌, subst, true≢false, arith}
 use Rattle.std.specs.Option.{option_map}
 use Rattle.std.proofs.lemmas.Bool.{cases_eq, false_from_ne_true}
-use Rattle.std.proofs.lemmas.List.Sums.{sum_by-append, position_or_len_is, passes_at_first}
+use Rattle.std.proofs.lemmas.List.Quantifiers.{position-Some}
+use Rattle.std.proofs.lemmas.List.Sums.{sum_by-append, position_or_len_is}
 use Rattle.std.proofs.lemmas.Option.{none-some, same_Some, slice_get-map, slice_get_within, slice_get-get_or, get_or_from_slice_get, slice_get_cases}
 use Rattle.std.proofs.lemmas.Slice.Eq.{bytes_eq-Decides}
 use Rattle.tl_program.specs.Program.{KindText, nat, flag, call, of, FieldText, DeclText}
 use Rattle.tl_names.specs.Writing.{At}
-use Rattle.tl_names.specs.Indexes.{variable_of}
+use Rattle.tl_names.specs.MeantDecls.{kind_by}
+use Rattle.tl_names.specs.What.{variable_named, what_of}
+use Rattle.tl_names.proofs.Positions.{position_found}
 use Rattle.tl_schema.specs.SameName.{part}
 use Rattle.tl_schema.specs.UnknownVariable.{called_by, calls, uncalled}
 use Rattle.tl_schema.specs.CheckCauses.{NoneHas}
@@ -112,17 +115,18 @@ module _ (schema : Declared) (good : IsSchema schema) (i : ℕ) (t : DeclText) (
         let names = map (λ (f : FieldText). f.name) t.fields in
         distinct i (part t j here (record { earlier = k; item = name; before = below; there = get_before t.vars names k name same; here = get_before t.vars names j name at })))
 
-    pub variable_at : variable_of t name ≡ j
+    pub variable_at : variable_named t name ≡ Some j
     variable_at =
-        position_or_len_is (bytes_eq name) t.vars j name (let inside = slice_get_within t.vars j name at in omega (arith, inside)) first
-        (λ inside. ap (bytes_eq name) (get_or_from_slice_get t.vars j name name at) ∙ (bytes_eq-Decides name name).1 refl)
+        let inside = slice_get_within t.vars j name at in
+        let is = position_or_len_is (bytes_eq name) t.vars j name (omega (arith, inside)) first
+        (λ inside. ap (bytes_eq name) (get_or_from_slice_get t.vars j name name at) ∙ (bytes_eq-Decides name name).1 refl) in
+        position_found (bytes_eq name) t.vars (omega (arith, inside, is)) ∙ ap Some is
 
     -- no other name has it
-    pub named_at : (other : List ℕ) → variable_of t other ≡ j → name ≡ other
+    pub named_at : (other : List ℕ) → variable_named t other ≡ Some j → name ≡ other
     named_at other is =
-        let inside = slice_get_within t.vars j name at in
-        let passes : bytes_eq other (get_or t.vars (variable_of t other) name) ≡ true = passes_at_first (bytes_eq other) t.vars name (omega (arith, inside, is)) in
-        sym ((bytes_eq-Decides other (get_or t.vars (variable_of t other) name)).0 passes ∙ ap (λ (k : ℕ). get_or t.vars k name) is ∙ get_or_from_slice_get t.vars j name name at)
+        let found = position-Some (bytes_eq other) t.vars j name is in
+        sym ((bytes_eq-Decides other (get_or t.vars j name)).0 found.1 ∙ get_or_from_slice_get t.vars j name name at)
 
     called_once : t.function ≡ true → count_by (bytes_eq name) (calls t) ≡ 1
     called_once function = elim (cases_eq (count_by (bytes_eq name) (calls t)) 1) [
@@ -138,19 +142,22 @@ module _ (schema : Declared) (good : IsSchema schema) (i : ℕ) (t : DeclText) (
     field_of : (k : ℕ) → slice_get d.fields k ≡ option_map (slot_of schema.program t) (slice_get t.fields k)
     field_of k = ap (λ (fs : List Slot). slice_get fs k) fields_are ∙ slice_get-map (slot_of schema.program t) t.fields k
 
+    abbrev variable_of : KindText → Option ℕ
+    variable_of k = kind_variable (kind_by (what_of schema.program t) (variable_named t) k)
+
     -- a field that is a call of the name is one of its variable
     slot_called : (j : ℕ) (name : List ℕ) → slice_get t.vars j ≡ Some name → (k : ℕ) (f : FieldText) → slice_get t.fields k ≡ Some f → IsCallOf (bytes_eq name) f → IsCalledAt d j k
     slot_called j name at k f there c = record {
       f = slot_of schema.program t f;
       there = field_of k ∙ ap (option_map (slot_of schema.program t)) there;
-      var = ap (kind_variable t) c.1 ∙ ap (λ (v : List ℕ). Some (variable_of t v)) (sym ((bytes_eq-Decides name c.0).0 c.2)) ∙ ap Some (variable_at j name at);
+      var = ap variable_of c.1 ∙ ap (variable_named t) (sym ((bytes_eq-Decides name c.0).0 c.2)) ∙ variable_at j name at;
     }
 
-    variable_called : (k : KindText) (j : ℕ) → kind_variable t k ≡ Some j → (name : List ℕ) × (k ≡ call name) × (variable_of t name ≡ j)
+    variable_called : (k : KindText) (j : ℕ) → variable_of k ≡ Some j → (name : List ℕ) × (k ≡ call name) × (variable_named t name ≡ Some j)
     variable_called nat j e = absurd (none-some j e)
     variable_called flag j e = absurd (none-some j e)
     variable_called (of u) j e = absurd (none-some j e)
-    variable_called (call name) j e = (name, refl, same_Some (variable_of t name) j e)
+    variable_called (call name) j e = (name, refl, e)
 
     -- and a call of the variable is such a field
     field_called : (j : ℕ) (name : List ℕ) → slice_get t.vars j ≡ Some name → (k : ℕ) → IsCalledAt d j k → (f : FieldText) × (slice_get t.fields k ≡ Some f) × IsCallOf (bytes_eq name) f

@@ -21,7 +21,6 @@ pub mod Outcomes
 pub mod FedBytes
 pub mod SizesNamed
 pub mod SizesBounded
-pub mod SizesBare
 pub mod SizesEmpty
 pub mod SizesWidths
 pub mod SizesUsed

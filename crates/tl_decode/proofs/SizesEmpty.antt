@@ -3,20 +3,22 @@ use Rattle.std.proofs.Common.{◌≡◌, ◌⊎◌, inl, inr, ℕ, zero, suc, �
 use Rattle.std.specs.Prelude.{nat_le}
 use Rattle.std.proofs.lemmas.Option.{none-some, same_Some}
 use Rattle.tl_numbers.specs.Numbers.{word}
-use Rattle.tl_program.specs.Trees.{Tree, named, percent, any_call}
 use Rattle.tl_program.specs.Program.{KindText, FieldText, DeclText}
 use Rattle.tl_program.specs.Program as kind
 use Rattle.tl_names.specs.Writing.{is_constructor}
-use Rattle.tl_names.specs.Parts.{FieldAt, HeldBy, Writes, IsPart}
+use Rattle.tl_names.specs.Parts.{FieldAt, HeldBy, Writes}
 use Rattle.tl_names.specs.BareFields.{HoldsBare, TakesNone, takes_none}
 use Rattle.tl_names.proofs.Maps.{slice_get_made}
+use Rattle.tl_names.proofs.PartsOfOne.{is_own_part}
 use Rattle.tl_schema.specs.Types.{Shape, Shapes}
 use Rattle.tl_schema.specs.Types as type
 use Rattle.tl_schema.specs.Closing.{closed, list_of_shapes}
 use Rattle.tl_schema.specs.Schemas.{Slot, Declaration, Declared}
 use Rattle.tl_schema.specs.CheckedPrograms.{IsSchema}
-use Rattle.tl_schema.specs.Meanings.{kind_shape, slot_of}
+use Rattle.tl_schema.specs.Meanings.{slot_of}
 use Rattle.tl_schema.specs.Formed.{IsFormed, IsFormedOver, IsMember, IsEmpty, IsCondition, IsFormedField, IsOwn, count_of, field_variables}
+use Rattle.tl_schema.proofs.BareShapes.{empty_bare}
+use Rattle.tl_schema.proofs.MeantTypes.{held_shape}
 use Rattle.tl_schema.proofs.Members.{declaration_at}
 use Rattle.tl_schema.proofs.FieldsFormed.{fields_are_formed}
 use Rattle.tl_schema.proofs.ClosedFormed.{closing_keeps_formed}
@@ -29,7 +31,6 @@ use Rattle.tl_types.specs.Spelling as begins
 use Rattle.tl_types.proofs.SchemaNumbers.{numbers_tell}
 use Rattle.tl_decode.specs.Sizes.{IsWidth, FlagsHaveConditions}
 use Rattle.tl_decode.proofs.SizesNamed.{IsClosedUnderNames, HasWidth, AreFieldsIn}
-use Rattle.tl_decode.proofs.SizesBare.{empty_bare}
 
 -- ---- one number for each element
 
@@ -58,11 +59,6 @@ module _ {X : Type 0} (R : X → ℕ → Type 0) where
   chosen (x ∷ xs) all = let h = all 0 x refl in one_cell x xs h.0 h.1 (chosen xs (λ i. all (suc i)))
 
 -- ---- a record of no bytes
-
-part_itself : (u : Tree) → IsPart u u
-part_itself (named name ts) = inl refl
-part_itself (percent t) = inl refl
-part_itself any_call = refl
 
 own_constructor : (function built : Bool) → (function && not built) ≡ false → built ≡ false → (not function && not built) ≡ true
 own_constructor true true e own = absurd (true≢false own)
@@ -141,16 +137,16 @@ module _ (schema : Declared) (good : IsSchema schema) (flags : FlagsHaveConditio
     abbrev HoldsEmpty : KindText → ℕ → Type 0
     HoldsEmpty kind i = HoldsBare schema.program t kind i × TakesNone schema.program i
 
-    held_by : (k : ℕ) (g : FieldText) → FieldAt t k g → (kind : KindText) → g.kind ≡ kind → IsEmpty schema (kind_shape schema.program t kind) → (i : ℕ) × HoldsEmpty kind i
+    held_by : (k : ℕ) (g : FieldText) → FieldAt t k g → (kind : KindText) → g.kind ≡ kind → IsEmpty schema (held_shape schema.program t kind) → (i : ℕ) × HoldsEmpty kind i
     held_by k g at kind.nat is empty = absurd empty
     held_by k g at kind.flag is empty = absurd empty
     held_by k g at (kind.call var) is empty = absurd empty
     held_by k g at (kind.of u) is empty =
-        let writes : Writes t u = record { own = line; there = inl (k, g, at, subst (HeldBy u) (sym is) (part_itself u)) } in
-        let bare = empty_bare schema t u (λ h. good.passes.1.0 j (record { d = t; here = here; has = (u, writes, h) })) (λ h. good.passes.1.1.1.1.1.0 j (record { d = t; here = here; has = (u, writes, h) })) empty in
+        let writes : Writes t u = record { own = line; there = inl (k, g, at, subst (HeldBy u) (sym is) (is_own_part u)) } in
+        let bare = empty_bare schema t u (λ h. good.passes.1.1.1.1.1.0 j (record { d = t; here = here; has = (u, writes, h) })) empty in
         (bare.0, (bare.1, bare.2))
 
-    all_held : ((k : ℕ) (g : FieldText) → FieldAt t k g → IsEmpty schema (kind_shape schema.program t g.kind)) → is_constructor t ≡ true → TakesNone schema.program j
+    all_held : ((k : ℕ) (g : FieldText) → FieldAt t k g → IsEmpty schema (held_shape schema.program t g.kind)) → is_constructor t ≡ true → TakesNone schema.program j
     all_held empty is =
         let c = chosen (λ (g : FieldText). HoldsEmpty g.kind) t.fields (λ k g at. held_by k g at g.kind refl (empty k g at)) in
         takes_none j t c.js here (record { own = is; count = c.count; each = λ i k g at among. (c.each i k g at among).0 }) (λ k among. (c.origin among.0 k among.1).1.1)

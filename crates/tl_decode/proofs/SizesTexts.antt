@@ -1,5 +1,5 @@
 -- The schema of a text: each declaration has few fields, and each flag a condition.
-use Rattle.std.proofs.Common.{◌≡◌, ℕ, Bool, true, false, List, [], length, slice_get, bytes_eq, codes, true≢false, Option, Some, None, IsSome, All, refl, sym, ap, ◌∙◌, subst, arith, if◌then◌else◌}
+use Rattle.std.proofs.Common.{◌≡◌, ℕ, Bool, true, false, List, [], length, slice_get, true≢false, Option, Some, None, IsSome, All, refl, sym, ap, ◌∙◌, subst, arith}
 use Rattle.std.specs.Option.{option_map}
 use Rattle.std.proofs.lemmas.List.{length-map}
 use Rattle.std.proofs.lemmas.List.Elements.{All-nil, All-push, All-get_or}
@@ -15,18 +15,21 @@ use Rattle.tl_program.specs.Program.{KindText, DeclText, FieldText, HasFewParts}
 use Rattle.tl_program.specs.Program as kind
 use Rattle.tl_combinators.specs.Description.{Piece}
 use Rattle.tl_combinators.specs.Fields.{HeldText, called, in_condition, held, FieldsText, field, field_too_many, one_field, fields, where_field}
-use Rattle.tl_program.specs.BuiltIns.{built_in}
 use Rattle.tl_combinators.specs.BuiltInLines.{built_in_line}
 use Rattle.tl_combinators.specs.Declarations.{combinator, named_declaration, declaration, where_declaration, declaration_too_many}
 use Rattle.tl_combinators.specs.Sentences.{ProgramText, item, one_declaration, program}
 use Rattle.tl_combinators.proofs.Values.{Only, only_gives, only_fails, only_chain, only_choice, only_loop, only_taken}
 use Rattle.tl_combinators.proofs.WithinLimits.{within_limits}
-use Rattle.tl_names.specs.Writing.{is_type_name, is_variable}
+use Rattle.tl_names.specs.MeantDecls.{cond_by}
+use Rattle.tl_names.specs.What.{field_named, what_of}
+use Rattle.tl_names.specs.declared.what.What.{What}
 use Rattle.tl_schema.specs.Types.{Shape, Shapes}
 use Rattle.tl_schema.specs.Types as type
 use Rattle.tl_schema.specs.Schemas.{Slot, Declaration, Declared}
 use Rattle.tl_schema.specs.CheckedPrograms.{IsSchema}
-use Rattle.tl_schema.specs.Meanings.{built_in_shape, condition_of, kind_shape, known_shape, slot_of, meaning, meanings}
+use Rattle.tl_schema.specs.Meanings.{built_in_shape, condition_of, meaning, named_shape, slot_of}
+use Rattle.tl_schema.proofs.BareShapes.{form_by}
+use Rattle.tl_schema.proofs.MeantTypes.{held_shape, meanings}
 use Rattle.tl_schema.proofs.Members.{declaration_at}
 use Rattle.tl_decode.specs.Sizes.{HasFewFields, FlagsHaveConditions, HoldsOfTexts}
 
@@ -152,39 +155,36 @@ abbrev is_flag : Shape → Bool
 is_flag type.flag = true
 is_flag s = false
 
-either_plain : (b : Bool) (s u : Shape) → is_flag s ≡ false → is_flag u ≡ false → is_flag (if b then s else u) ≡ false
-either_plain true s u first second = first
-either_plain false s u first second = second
+built_in_plain : (b : BuiltIn) → is_flag (built_in_shape b) ≡ false
+built_in_plain Int = refl
+built_in_plain Long = refl
+built_in_plain Double = refl
+built_in_plain Str = refl
+built_in_plain Bytes = refl
+built_in_plain Vector = refl
+built_in_plain Int128 = refl
+built_in_plain Int256 = refl
 
-module _ (ds : List DeclText) (d : DeclText) where
-  known_plain : (name : List ℕ) (args : Shapes) (b : Option BuiltIn) → is_flag (known_shape ds name args (built_in_shape b)) ≡ false
-  known_plain name args (Some Int) = refl
-  known_plain name args (Some Long) = refl
-  known_plain name args (Some Double) = refl
-  known_plain name args (Some Str) = refl
-  known_plain name args (Some Bytes) = refl
-  known_plain name args (Some Vector) = either_plain (is_type_name name) _ _ refl refl
-  known_plain name args (Some Int128) = refl
-  known_plain name args (Some Int256) = refl
-  known_plain name args None = either_plain (is_type_name name) _ _ refl refl
+named_plain : (w : What) (args : Shapes) → is_flag (named_shape w args) ≡ false
+named_plain (What.Variable i) args = refl
+named_plain (What.Base b) args = built_in_plain b
+named_plain (What.Vector is_boxed) args = refl
+named_plain (What.Type n) args = refl
+named_plain (What.Constructor i) args = refl
+named_plain What.Unknown args = refl
 
-  meaning_plain : (t : Tree) → is_flag (meaning ds d t) ≡ false
-  meaning_plain (named name ts) =
-      let args = meanings ds d ts in
-      either_plain (is_variable d name) _ _ refl
-      (either_plain (bytes_eq name (codes "vector")) _ _ refl (either_plain (bytes_eq name (codes "Vector")) _ _ refl (known_plain name args (built_in name))))
-  meaning_plain (percent (named name ts)) = either_plain (bytes_eq name (codes "Vector")) _ _ refl refl
-  meaning_plain (percent (percent t)) = refl
-  meaning_plain (percent any_call) = refl
-  meaning_plain any_call = refl
+meaning_plain : (ds : List DeclText) (d : DeclText) (t : Tree) → is_flag (meaning ds d t) ≡ false
+meaning_plain ds d (named name ts) = named_plain (what_of ds d name) (meanings ds d ts)
+meaning_plain ds d (percent t) = form_by ds (λ s. is_flag s ≡ false) (meaning ds d t) (meaning_plain ds d t) (λ b u e. refl) (λ h args e. refl)
+meaning_plain ds d any_call = refl
 
-flag_kind : (ds : List DeclText) (d : DeclText) (k : KindText) → kind_shape ds d k ≡ type.flag → k ≡ kind.flag
+flag_kind : (ds : List DeclText) (d : DeclText) (k : KindText) → held_shape ds d k ≡ type.flag → k ≡ kind.flag
 flag_kind ds d kind.nat e = absurd cc
 flag_kind ds d kind.flag e = refl
 flag_kind ds d (kind.call var) e = absurd cc
 flag_kind ds d (kind.of t) e = absurd (true≢false (sym (ap is_flag e) ∙ meaning_plain ds d t))
 
-mapped_some : (d : DeclText) (o : Option kind.CondText) → IsSome o → IsSome (option_map (condition_of d) o)
+mapped_some : (d : DeclText) (o : Option kind.CondText) → IsSome o → IsSome (option_map (condition_of (length d.fields)) (option_map (cond_by (field_named d)) o))
 mapped_some d (Some c) is = refl
 mapped_some d None is = is
 

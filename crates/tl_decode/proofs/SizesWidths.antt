@@ -1,74 +1,62 @@
 -- The opaque types that a program means are as wide as a double, an int128 or an int256.
-use Rattle.std.proofs.Common.{◌≡◌, inl, inr, ℕ, zero, suc, List, get_or, slice_get, bytes_eq, codes, Bool, true, false, Option, Some, None, refl, sym, ap, ◌∙◌, subst, if◌then◌else◌}
+use Rattle.std.proofs.Common.{◌≡◌, inl, inr, ℕ, zero, suc, List, get_or, slice_get, Option, Some, None, refl, sym, ap, ◌∙◌, subst}
 use Rattle.std.specs.Option.{option_map}
 use Rattle.std.proofs.lemmas.Option.{none-some, same_Some, slice_get-map}
 use Rattle.tl_program.specs.declared.built_in.BuiltIn.{BuiltIn}
 use Rattle.tl_program.specs.declared.built_in.BuiltIn.TheVariants.{Int, Long, Double, Str, Bytes, Vector, Int128, Int256}
-use Rattle.tl_program.specs.BuiltIns.{built_in}
 use Rattle.tl_program.specs.Trees.{Tree, Trees, named, percent, any_call, no_trees, tree}
 use Rattle.tl_program.specs.Program.{KindText, DeclText, FieldText}
 use Rattle.tl_program.specs.Program as kind
-use Rattle.tl_names.specs.Writing.{is_type_name, is_variable}
+use Rattle.tl_names.specs.What.{what_of}
+use Rattle.tl_names.specs.declared.what.What.{What}
 use Rattle.tl_schema.specs.Types.{Shape, Shapes}
 use Rattle.tl_schema.specs.Types as type
 use Rattle.tl_schema.specs.Closing.{closed, closed_each, list_of_shapes}
 use Rattle.tl_schema.specs.Schemas.{Slot, Declaration, Declared}
 use Rattle.tl_schema.specs.CheckedPrograms.{IsSchema}
 use Rattle.tl_schema.specs.AskedTypes.{asker}
-use Rattle.tl_schema.specs.Meanings.{item_of, built_in_shape, declared_shape, known_shape, named_shape, bare_shape, meaning, bare_meaning, meanings, kind_shape, slot_of}
+use Rattle.tl_schema.specs.Meanings.{built_in_shape, item_of, meaning, named_shape, slot_of}
+use Rattle.tl_schema.proofs.BareShapes.{form_by}
+use Rattle.tl_schema.proofs.MeantTypes.{held_shape, meanings}
 use Rattle.tl_schema.proofs.Members.{declaration_at}
 use Rattle.tl_decode.specs.Sizes.{HasWidths, HaveWidths, HoldsOfTypes}
 
 -- ---- types where they are written
 
-either_wide : (b : Bool) (s u : Shape) → HasWidths s → HasWidths u → HasWidths (if b then s else u)
-either_wide true s u first second = first
-either_wide false s u first second = second
-
 item_wide : (args : Shapes) → HaveWidths args → HasWidths (item_of args)
 item_wide type.no_shapes wide = tt
 item_wide (type.shape s ss) wide = wide.0
 
+built_in_wide : (b : BuiltIn) → HasWidths (built_in_shape b)
+built_in_wide Int = tt
+built_in_wide Long = tt
+built_in_wide Double = inl refl
+built_in_wide Str = tt
+built_in_wide Bytes = tt
+built_in_wide Vector = tt
+built_in_wide Int128 = inr (inl refl)
+built_in_wide Int256 = inr (inr refl)
+
+named_wide : (w : What) (args : Shapes) → HaveWidths args → HasWidths (named_shape w args)
+named_wide (What.Variable i) args wide = tt
+named_wide (What.Base b) args wide = built_in_wide b
+named_wide (What.Vector is_boxed) args wide = item_wide args wide
+named_wide (What.Type n) args wide = wide
+named_wide (What.Constructor i) args wide = wide
+named_wide What.Unknown args wide = tt
+
 module _ (ds : List DeclText) (d : DeclText) where
-  module _ (name : List ℕ) (args : Shapes) (wide : HaveWidths args) where
-    declared_wide : HasWidths (declared_shape ds name args)
-    declared_wide = either_wide (is_type_name name) _ _ wide wide
-
-    known_wide : (b : Option BuiltIn) → HasWidths (known_shape ds name args (built_in_shape b))
-    known_wide (Some Int) = tt
-    known_wide (Some Long) = tt
-    known_wide (Some Double) = inl refl
-    known_wide (Some Str) = tt
-    known_wide (Some Bytes) = tt
-    known_wide (Some Vector) = declared_wide
-    known_wide (Some Int128) = inr (inl refl)
-    known_wide (Some Int256) = inr (inr refl)
-    known_wide None = declared_wide
-
-    named_wide : HasWidths (named_shape ds d name args)
-    named_wide =
-        either_wide (is_variable d name) _ _ tt
-        (either_wide (bytes_eq name (codes "vector")) _ _ (item_wide args wide) (either_wide (bytes_eq name (codes "Vector")) _ _ (item_wide args wide) (known_wide (built_in name))))
-
-    bare_wide : HasWidths (bare_shape ds name args)
-    bare_wide = either_wide (bytes_eq name (codes "Vector")) _ _ (item_wide args wide) wide
-
   mutual
     meaning_wide : (t : Tree) → HasWidths (meaning ds d t)
-    meaning_wide (named name ts) = named_wide name (meanings ds d ts) (meanings_wide ts)
-    meaning_wide (percent t) = bare_meaning_wide t
+    meaning_wide (named name ts) = named_wide (what_of ds d name) (meanings ds d ts) (meanings_wide ts)
+    meaning_wide (percent t) = let wide = meaning_wide t in form_by ds HasWidths (meaning ds d t) wide (λ b u e. subst HasWidths e wide) (λ h args e. subst HasWidths e wide)
     meaning_wide any_call = tt
-
-    bare_meaning_wide : (t : Tree) → HasWidths (bare_meaning ds d t)
-    bare_meaning_wide (named name ts) = bare_wide name (meanings ds d ts) (meanings_wide ts)
-    bare_meaning_wide (percent t) = tt
-    bare_meaning_wide any_call = tt
 
     meanings_wide : (ts : Trees) → HaveWidths (meanings ds d ts)
     meanings_wide no_trees = tt
     meanings_wide (tree t ts) = (meaning_wide t, meanings_wide ts)
 
-  kind_wide : (k : KindText) → HasWidths (kind_shape ds d k)
+  kind_wide : (k : KindText) → HasWidths (held_shape ds d k)
   kind_wide kind.nat = tt
   kind_wide kind.flag = tt
   kind_wide (kind.call var) = tt

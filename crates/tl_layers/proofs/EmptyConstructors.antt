@@ -1,225 +1,46 @@
 -- What a schema tells of its types and of constructors without bytes.
-use Rattle.std.proofs.Common.{◌≡◌, ◌⊎◌, inl, inr, ℕ, zero, suc, ◌+◌, ◌<◌, Bool, true, false, cond, not, ◌&&◌, ◌||◌, List, [], ◌∷◌, ◌++◌, length, map, get_or, slice_get, bytes_eq, codes, Option, Some, None, is_some, refl, ap, sym, ◌∙◌, subst, true≢false, arith, if◌then◌else◌}
-use Rattle.std.specs.List.{fold, list_any, position_or_len}
-use Rattle.std.proofs.lemmas.List.{append_assoc}
+use Rattle.std.proofs.Common.{◌≡◌, ◌⊎◌, inl, inr, ℕ, zero, suc, ◌+◌, ◌<◌, Bool, true, false, not, ◌&&◌, List, [], ◌∷◌, length, map, get_or, slice_get, Option, Some, None, is_some, refl, ap, sym, ◌∙◌, subst, true≢false, arith}
 use Rattle.std.proofs.lemmas.Option.{none-some, same_Some, slice_get_within, get_or_from_slice_get}
-use Rattle.std.proofs.lemmas.Slice.Eq.{bytes_eq-Decides}
-use Rattle.tl_program.specs.declared.built_in.BuiltIn.{BuiltIn}
-use Rattle.tl_program.specs.BuiltIns.{built_in}
-use Rattle.tl_program.specs.Trees.{Tree, Trees, named, percent, any_call}
+use Rattle.tl_program.specs.Trees.{Tree}
 use Rattle.tl_program.specs.Program.{KindText, nat, flag, call, of, FieldText, DeclText}
-use Rattle.tl_graph.specs.Firsts.{First}
 use Rattle.tl_graph.specs.Paths.{IsIn}
 use Rattle.tl_names.specs.BareFields.{HoldsBare, TakesNone, takes_none}
-use Rattle.tl_names.specs.BareReferences.{IsBareOf, by_name, by_type}
-use Rattle.tl_names.specs.Constructors.{IsOnlyConstructor}
-use Rattle.tl_names.specs.NameLists.{with_name}
-use Rattle.tl_names.specs.Parts.{FieldAt, HeldBy, IsPart, Writes}
-use Rattle.tl_names.specs.Indexes.{types_of, with_type_of, head_of, constructor_index, first_of, variable_of}
-use Rattle.tl_names.specs.Writing.{At, is_type_name, is_built_in, is_variable, is_constructor, result_head, own_type, IsConstructorNamed, IsConstructorOf}
-use Rattle.tl_names.proofs.Indexes.{get_cases}
-use Rattle.tl_names.proofs.FirstIndexes.{index_found, first_found}
-use Rattle.tl_names.proofs.HeadNames.{type_name}
+use Rattle.tl_names.specs.BareReferences.{IsBareOf}
+use Rattle.tl_names.specs.Constructors.{FirstOf}
+use Rattle.tl_names.specs.Parts.{FieldAt, HeldBy, Writes}
+use Rattle.tl_names.specs.Indexes.{types_of}
+use Rattle.tl_names.specs.What.{type_named}
+use Rattle.tl_names.specs.Writing.{At, is_constructor, result_head, own_type}
+use Rattle.tl_names.proofs.NameMeanings.{type_first}
+use Rattle.tl_names.proofs.PartsOfOne.{is_own_part}
+use Rattle.tl_names.proofs.TypeNumbers.{number_of}
 use Rattle.tl_schema.specs.CheckCauses.{NoneHas}
 use Rattle.tl_schema.specs.declared.fault.CheckCause.TheVariants as cause
 use Rattle.tl_schema.specs.CheckedPrograms.{IsSchema}
 use Rattle.tl_schema.specs.Formed.{IsMember, IsOwn, AppliesBare, IsFormedOver, field_variables, count_of}
-use Rattle.tl_schema.specs.Meanings.{head_in, item_of, base_shape, built_in_shape, declared_shape, known_shape, named_shape, bare_shape, meaning, meanings, kind_shape, slot_of}
-use Rattle.tl_schema.specs.NotBare.{HasBare, HasNoBare}
-use Rattle.tl_schema.specs.NotBare as only
+use Rattle.tl_schema.specs.Meanings.{head_in, meaning, slot_of}
+use Rattle.tl_schema.specs.NotBare.{HasNoBare}
 use Rattle.tl_schema.specs.Schemas.{Slot, Declaration, Declared}
 use Rattle.tl_schema.specs.Types.{Shape, Shapes}
 use Rattle.tl_schema.specs.Types as type
-use Rattle.tl_schema.specs.UnknownType.{BeginsUnknown, no_constructor}
-use Rattle.tl_schema.proofs.BuiltInNames.{if_by, base_by, type_not_built_in, shapeless_not_built_in}
+use Rattle.tl_schema.proofs.BareShapes.{bare_at, bare_in, bare_is, bare_means}
 use Rattle.tl_schema.proofs.FieldsFormed.{fields_are_formed}
-use Rattle.tl_schema.proofs.Firsts as firsts
-use Rattle.tl_schema.proofs.Members.{declaration_at}
-use Rattle.tl_schema.proofs.NotBareFirst.{bare_decided}
-use Rattle.tl_schema.proofs.WritingDecided.{named_at_decided}
+use Rattle.tl_schema.proofs.MeantTypes.{held_shape}
+use Rattle.tl_schema.proofs.Members.{declaration_at, entry_at, member, own_by_head}
 use Rattle.tl_layers.specs.LayerLaws.{ImageIsFormed}
 use Rattle.tl_layers.proofs.EvenTypes.{even}
-use Rattle.tl_layers.proofs.FormedImages.{IsBareAt, index_in, HasNoBytes, no_bytes, EmptiesTell, image_has_values}
-use Rattle.tl_layers.proofs.LiftedValues.{get_next, get_mapped, get_some}
+use Rattle.tl_layers.proofs.FormedImages.{IsBareAt, HasNoBytes, no_bytes, EmptiesTell, image_has_values}
+use Rattle.tl_layers.proofs.LiftedValues.{get_mapped, get_some}
 use Rattle.tl_layers.proofs.MovedDeclarations.{get_of}
-
--- ---- each type has a constructor
-
--- where one passes, the first that does
-first_passes : {X : Type 0} (test : X → Bool) (xs : List X) → list_any test xs ≡ true → (x : X) × (slice_get xs (position_or_len test xs) ≡ Some x) × (test x ≡ true)
-first_passes test [] h = absurd (true≢false (sym h))
-first_passes {X = X} test (x ∷ xs) h = by (test x) refl (first_passes test xs)
-  where
-    by : (b : Bool) → test x ≡ b → (list_any test xs ≡ true → (y : X) × (slice_get xs (position_or_len test xs) ≡ Some y) × (test y ≡ true)) → (y : X) × (slice_get (x ∷ xs) (position_or_len test (x ∷ xs)) ≡ Some y) × (test y ≡ true)
-    by true e rest = (x, ap (λ (b : Bool). slice_get (x ∷ xs) (cond (not b) (1 + position_or_len test xs) 0)) e, e)
-    by false e rest =
-        let next : position_or_len test (x ∷ xs) ≡ 1 + position_or_len test xs = ap (λ (b : Bool). cond (not b) (1 + position_or_len test xs) 0) e in
-        let later : position_or_len test (x ∷ xs) ≡ suc (position_or_len test xs) = omega (arith, next) in
-        let r = rest (sym (ap (λ (b : Bool). b || list_any test xs) e) ∙ h) in (r.0, ap (slice_get (x ∷ xs)) later ∙ r.1, r.2)
-
-any_there : (names : List (List ℕ)) (name : List ℕ) (k : ℕ) → slice_get names k ≡ Some name → list_any (bytes_eq name) names ≡ true
-any_there [] name k at = absurd (none-some name at)
-any_there (n ∷ names) name zero at = ap (λ (b : Bool). b || list_any (bytes_eq name) names) ((bytes_eq-Decides name n).1 (sym (same_Some n name at)))
-any_there (n ∷ names) name (suc k) at = by (bytes_eq name n) (any_there names name k at)
-  where
-    by : (b : Bool) → list_any (bytes_eq name) names ≡ true → (b || list_any (bytes_eq name) names) ≡ true
-    by true e = refl
-    by false e = e
-
-module _ (ds : List DeclText) where
-  -- each of the types is that of a declaration, and stands there once
-  record AreMade (types : List (List ℕ)) : Type 0 where
-    made : (h : ℕ) (type : List ℕ) → slice_get types h ≡ Some type → (i : ℕ) × (d : DeclText) × At ds i d × (own_type d ≡ Some type)
-    apart : (g h : ℕ) (type : List ℕ) → slice_get types g ≡ Some type → slice_get types h ≡ Some type → g ≡ h
-
-  module _ (types : List (List ℕ)) (name : List ℕ) (i : ℕ) (d : DeclText) (at : At ds i d) (own : own_type d ≡ Some name) (are : AreMade types) where
-    made_pushed : (h : ℕ) (type : List ℕ) → slice_get (types ++ name ∷ []) h ≡ Some type → (i : ℕ) × (d : DeclText) × At ds i d × (own_type d ≡ Some type)
-    made_pushed h type there = elim (get_cases types name h type there) [
-      | inl before ↦ are.made h type before
-      | inr last ↦ (i, d, at, own ∙ ap Some last.1)
-    ]
-
-    module _ (new : list_any (bytes_eq name) types ≡ false) where
-      not_there : (k : ℕ) → slice_get types k ≡ Some name → ⊥
-      not_there k here = true≢false (sym (any_there types name k here) ∙ new)
-
-      apart_by : (g h : ℕ) (type : List ℕ) → (slice_get types g ≡ Some type) ⊎ ((g ≡ length types) × (name ≡ type)) → (slice_get types h ≡ Some type) ⊎ ((h ≡ length types) × (name ≡ type)) → g ≡ h
-      apart_by g h type (inl a) (inl b) = are.apart g h type a b
-      apart_by g h type (inl a) (inr b) = absurd (not_there g (a ∙ ap Some (sym b.1)))
-      apart_by g h type (inr a) (inl b) = absurd (not_there h (b ∙ ap Some (sym a.1)))
-      apart_by g h type (inr a) (inr b) = a.0 ∙ sym b.0
-
-      pushed : AreMade (types ++ name ∷ [])
-      pushed = record { made = made_pushed; apart = λ g h type a b. apart_by g h type (get_cases types name g type a) (get_cases types name h type b) }
-
-    with_made : AreMade (with_name types name)
-    with_made = if_by AreMade (list_any (bytes_eq name) types) types (types ++ name ∷ []) (λ _. are) pushed
-
-  one_made : (types : List (List ℕ)) (o : Option (List ℕ)) (i : ℕ) (d : DeclText) → At ds i d → own_type d ≡ o → AreMade types → AreMade (with_type_of types o)
-  one_made types None i d at own are = are
-  one_made types (Some name) i d at own are = with_made types name i d at own are
-
-  all_made : (types : List (List ℕ)) (front back : List DeclText) → ds ≡ front ++ back → AreMade types → AreMade (fold (λ ts d. with_type_of ts (own_type d)) types back)
-  all_made types front [] whole are = are
-  all_made types front (d ∷ back) whole are =
-      all_made (with_type_of types (own_type d)) (front ++ d ∷ []) back (whole ∙ sym (append_assoc front (d ∷ []) back))
-      (one_made types (own_type d) (length front) d (ap (λ (xs : List DeclText). slice_get xs (length front)) whole ∙ get_next front back d) refl are)
-
-  types_made : AreMade (types_of ds)
-  types_made = all_made [] [] ds refl (record { made = λ h type there. absurd (none-some type there); apart = λ g h type a b. absurd (none-some type a) })
-
-  -- the number of a type is its index
-  number_of_type : (h : ℕ) (type : List ℕ) → slice_get (types_of ds) h ≡ Some type → head_of ds type ≡ h
-  number_of_type h type at =
-      let f = first_passes (bytes_eq type) (types_of ds) (any_there (types_of ds) type h at) in
-      types_made.apart (head_of ds type) h type (f.1 ∙ ap Some (sym ((bytes_eq-Decides type f.0).0 f.2))) at
 
 -- ---- bare types, as they are written and as they are meant
 
 module _ (ds : List DeclText) (d : DeclText) where
-  -- what is bare in meaning is so as it is written
-  module _ (name : List ℕ) (ts : Trees) where
-    abbrev args : Shapes
-    args = meanings ds d ts
+  bare_written : (t : Tree) → (HasNoBare ds d t → ⊥) → (j : ℕ) → IsBareAt (meaning ds d t) j → IsBareOf ds d t j
+  bare_written t fine j (args, is) = (bare_is ds d t fine j).1 (ap bare_in is)
 
-    abbrev Tells : Tree → Shape → Type 0
-    Tells t s = (j : ℕ) → IsBareAt s j → IsBareOf ds d t j
-
-    same_index : (i j : ℕ) (us vs : Shapes) → type.bare i us ≡ type.bare j vs → i ≡ j
-    same_index i j us vs e = ap index_in e
-
-    module _ (known : BeginsUnknown ds d (named name ts) → ⊥) where
-      name_by : is_variable d name ≡ false → is_built_in name ≡ false → is_type_name name ≡ false → (o : Option ℕ) → First (λ i. (c : DeclText) × IsConstructorNamed ds name i c) o → Tells (named name ts) (type.bare (constructor_index ds name) args)
-      name_by free own lower None none j b =
-          absurd (known (record { no_variable = free; no_built_in = own; unknown = no_constructor lower (λ i c there. none i (c, there)) }))
-      name_by free own lower (Some k) first j b =
-          let is : k ≡ j = index_found ds name k first ∙ same_index (constructor_index ds name) j args b.0 b.1 in
-          by_name name ts refl free own lower (subst (λ (x : ℕ). First (λ i. (c : DeclText) × IsConstructorNamed ds name i c) (Some x)) is first)
-
-      declared_tells : is_variable d name ≡ false → is_built_in name ≡ false → Tells (named name ts) (declared_shape ds name args)
-      declared_tells free own =
-          if_by (Tells (named name ts)) (is_type_name name) (type.boxed (head_of ds name) args) (type.bare (constructor_index ds name) args) (λ _ j b. absurd cc)
-          (λ lower.
-          let first = firsts.first_of (λ i. (c : DeclText) × IsConstructorNamed ds name i c) (length ds) (named_at_decided ds name) (λ i h. slice_get_within ds i h.0 h.1.there) in
-          name_by free own lower first.0 first.1)
-
-      known_tells : is_variable d name ≡ false → bytes_eq name (codes "vector") ≡ false → bytes_eq name (codes "Vector") ≡ false → Tells (named name ts) (known_shape ds name args (base_shape name))
-      known_tells free lower upper =
-          base_by (λ o. base_shape name ≡ o → Tells (named name ts) (known_shape ds name args o)) name (λ _ j b. absurd cc) (λ _ j b. absurd cc) (λ k _ j b. absurd cc) (λ _ j b. absurd cc) (λ _ j b. absurd cc)
-          (λ e. declared_tells free (shapeless_not_built_in name upper lower e)) refl
-
-      named_tells : Tells (named name ts) (named_shape ds d name args)
-      named_tells =
-          if_by (Tells (named name ts)) (is_variable d name) _ _ (λ _ j b. absurd cc)
-          (λ free. if_by (Tells (named name ts)) (bytes_eq name (codes "vector")) _ _ (λ _ j b. absurd cc)
-          (λ lower. if_by (Tells (named name ts)) (bytes_eq name (codes "Vector")) _ _ (λ _ j b. absurd cc) (λ upper. known_tells free lower upper)))
-
-    first_only : (j : ℕ) (c : DeclText) → IsOnlyConstructor ds name j c → First (λ i. (b : DeclText) × IsConstructorOf ds name i b) (Some j)
-    first_only j c one = ((c, one.one), λ i below h. let same = one.only i h.0 h.1 in omega (arith, below, same))
-
-    percent_tells : HasBare ds d (named name ts) → Tells (percent (named name ts)) (bare_shape ds name args)
-    percent_tells (only.vector _ hidden is) =
-        let e : name ≡ codes "Vector" = ap type_name is in
-        if_by (Tells (percent (named name ts))) (bytes_eq name (codes "Vector")) _ _ (λ _ j b. absurd cc) (λ other. absurd (true≢false (sym ((bytes_eq-Decides name (codes "Vector")).1 e) ∙ other)))
-    percent_tells (only.single type _ k c hidden upper is one) =
-        let e : name ≡ type = ap type_name is in
-        let free = ap (is_variable d) e ∙ hidden in
-        let above = ap is_type_name e ∙ upper in
-        let single : IsOnlyConstructor ds name k c = subst (λ (x : List ℕ). IsOnlyConstructor ds x k c) (sym e) one in
-        if_by (Tells (percent (named name ts))) (bytes_eq name (codes "Vector")) _ _ (λ _ j b. absurd cc)
-        (λ other j b.
-        let at : k ≡ j = first_found ds name k (first_only k c single) ∙ same_index (first_of ds name) j args b.0 b.1 in
-        by_type name ts c refl free (type_not_built_in name other above) above (subst (λ (x : ℕ). IsOnlyConstructor ds name x c) at single))
-
-  pub bare_written : (t : Tree) → (BeginsUnknown ds d t → ⊥) → (HasNoBare ds d t → ⊥) → (j : ℕ) → IsBareAt (meaning ds d t) j → IsBareOf ds d t j
-  bare_written (named name ts) known bare j b = named_tells name ts known j b
-  bare_written (percent (named name ts)) known bare j b =
-      elim (bare_decided ds d (named name ts)) [ inl h ↦ percent_tells name ts h j b | inr none ↦ absurd (bare none) ]
-  bare_written (percent (percent t)) known bare j b = absurd cc
-  bare_written (percent any_call) known bare j b = absurd cc
-  bare_written any_call known bare j b = absurd cc
-
-  -- and the other way round
-
-  or_false : (a b : Bool) → (a || b) ≡ false → (a ≡ false) × (b ≡ false)
-  or_false true b e = absurd (true≢false e)
-  or_false false b e = (refl, e)
-
-  no_base : (name : List ℕ) → is_built_in name ≡ false → base_shape name ≡ None
-  no_base name own = by (built_in name) (or_false (is_some (built_in name)) (bytes_eq name (codes "Vector")) own).0
-    where
-      by : (o : Option BuiltIn) → is_some o ≡ false → built_in_shape o ≡ None
-      by None e = refl
-      by (Some b) e = absurd (true≢false e)
-
-  no_vector : (name : List ℕ) → is_built_in name ≡ false → bytes_eq name (codes "vector") ≡ false
-  no_vector name own = by (bytes_eq name (codes "vector")) refl
-    where
-      by : (b : Bool) → bytes_eq name (codes "vector") ≡ b → b ≡ false
-      by false e = refl
-      by true e = ap is_built_in (sym ((bytes_eq-Decides name (codes "vector")).0 e)) ∙ own
-
-  pub bare_meant : (t : Tree) (j : ℕ) → IsBareOf ds d t j → IsBareAt (meaning ds d t) j
-  bare_meant t j (by_name name ts is free own lower first) =
-      let upper = (or_false (is_some (built_in name)) (bytes_eq name (codes "Vector")) own).1 in
-      let us = meanings ds d ts in
-      let known = known_shape ds name us (base_shape name) in
-      let shape_is : named_shape ds d name us ≡ type.bare (constructor_index ds name) us =
-      ap (λ (b : Bool). if b then type.var (variable_of d name) else if bytes_eq name (codes "vector") then type.vector false (item_of us) else if bytes_eq name (codes "Vector") then type.vector true (item_of us) else known) free
-      ∙ ap (λ (b : Bool). if b then type.vector false (item_of us) else if bytes_eq name (codes "Vector") then type.vector true (item_of us) else known) (no_vector name own)
-      ∙ ap (λ (b : Bool). if b then type.vector true (item_of us) else known) upper ∙ ap (known_shape ds name us) (no_base name own)
-      ∙ ap (λ (b : Bool). if b then type.boxed (head_of ds name) us else type.bare (constructor_index ds name) us) lower in
-      (meanings ds d ts, ap (meaning ds d) is ∙ shape_is ∙ ap (λ (k : ℕ). type.bare k (meanings ds d ts)) (sym (index_found ds name j first)))
-  bare_meant t j (by_type name ts c is free own upper one) =
-      let other = (or_false (is_some (built_in name)) (bytes_eq name (codes "Vector")) own).1 in
-      let shape_is : bare_shape ds name (meanings ds d ts) ≡ type.bare (first_of ds name) (meanings ds d ts) =
-      ap (λ (b : Bool). if b then type.vector false (item_of (meanings ds d ts)) else type.bare (first_of ds name) (meanings ds d ts)) other in
-      (meanings ds d ts, ap (meaning ds d) is ∙ shape_is ∙ ap (λ (k : ℕ). type.bare k (meanings ds d ts)) (sym (first_found ds name j (first_only name ts j c one))))
-
-part_self : (t : Tree) → IsPart t t
-part_self (named name ts) = inl refl
-part_self (percent t) = inl refl
-part_self any_call = refl
+  bare_meant : (t : Tree) (j : ℕ) → IsBareOf ds d t j → IsBareAt (meaning ds d t) j
+  bare_meant t j bare = bare_at (meaning ds d t) j (bare_means ds d t j bare)
 
 flag_bare : (j : ℕ) (args : Shapes) → type.flag ≡ type.bare j args → ⊥
 flag_bare j args e = absurd cc
@@ -241,21 +62,14 @@ number_is at k (suc n) zero j there = (sym (same_Some (at k) j there) ∙ (let s
 number_is at k (suc n) (suc i) j there = let r = number_is at (suc k) n i j there in (r.0 ∙ (let same : suc k + i ≡ k + suc i = omega arith in ap at same), (let less = r.1 in omega (arith, less)))
 
 module _ (schema : Declared) (good : IsSchema schema) where
-  unknown_none : NoneHas schema.program cause.UnknownType
-  unknown_none = good.passes.1.0
-
   bare_none : NoneHas schema.program cause.NotBare
   bare_none = good.passes.1.1.1.1.1.0
-
-  constructs : (own : Bool) (head : Option (List ℕ)) → head_in schema.program (if own then head else None) < length (types_of schema.program) → own ≡ true
-  constructs true head below = refl
-  constructs false head below = absurd (omega (arith, below))
 
   entry_own : (i : ℕ) (d : Declaration) (there : slice_get schema.decls i ≡ Some d) → d.head < length (types_of schema.program) → is_constructor (declaration_at schema good i d there).0 ≡ true
   entry_own i d there known =
       let t = declaration_at schema good i d there in
       let head : d.head ≡ head_in schema.program (own_type t.0) = ap (λ (x : Declaration). x.head) t.2.1 in
-      constructs (is_constructor t.0) (result_head t.0) (omega (arith, head, known))
+      own_by_head schema.program (is_constructor t.0) (result_head t.0) (omega (arith, head, known))
 
   not_line : (t : DeclText) → is_constructor t ≡ true → t.builtin ≡ false
   not_line t own = by t.function t.builtin own
@@ -284,15 +98,14 @@ module _ (schema : Declared) (good : IsSchema schema) where
 
     module _ (own : is_constructor text ≡ true) where
       written : (k : ℕ) (g : FieldText) (t : Tree) → FieldAt text k g → g.kind ≡ of t → Writes text t
-      written k g t at is = record { own = not_line text own; there = inl (k, g, at, subst (HeldBy t) (sym is) (part_self t)) }
+      written k g t at is = record { own = not_line text own; there = inl (k, g, at, subst (HeldBy t) (sym is) (is_own_part t)) }
 
-      holds : (k : ℕ) (g : FieldText) → FieldAt text k g → (kind : KindText) → g.kind ≡ kind → (j : ℕ) → IsBareAt (kind_shape schema.program text kind) j → HoldsBare schema.program text kind j
+      holds : (k : ℕ) (g : FieldText) → FieldAt text k g → (kind : KindText) → g.kind ≡ kind → (j : ℕ) → IsBareAt (held_shape schema.program text kind) j → HoldsBare schema.program text kind j
       holds k g at nat is j b = absurd cc
       holds k g at flag is j b = absurd cc
       holds k g at (call var) is j b = absurd cc
       holds k g at (of t) is j b =
-          bare_written schema.program text t (λ u. unknown_none i (record { d = text; here = text_at; has = (t, written k g t at is, u) }))
-          (λ u. bare_none i (record { d = text; here = text_at; has = (t, written k g t at is, u) })) j b
+          bare_written schema.program text t (λ u. bare_none i (record { d = text; here = text_at; has = (t, written k g t at is, u) })) j b
 
   -- from entries to what is written
   from_entries : (i : ℕ) → HasNoBytes schema i → (h : ℕ) (e : Declaration) → IsMember schema h i e → TakesNone schema.program i
@@ -315,7 +128,7 @@ module _ (schema : Declared) (good : IsSchema schema) where
       each_is k j f fat jat =
           let n = number_is at 0 (length (text i d there).fields) k j jat in
           let is : at k ≡ j = (let zero_more : 0 + k ≡ k = omega arith in ap at (sym zero_more)) ∙ sym n.0 in
-          holds i d there own k f fat f.kind refl j (subst (IsBareAt (kind_shape schema.program (text i d there) f.kind)) is (bare k (slot_of schema.program (text i d there) f) (slot_at i d there k f fat)))
+          holds i d there own k f fat f.kind refl j (subst (IsBareAt (held_shape schema.program (text i d there) f.kind)) is (bare k (slot_of schema.program (text i d there) f) (slot_at i d there k f fat)))
 
       rest_is : ((k : ℕ) (f : Slot) → slice_get d.fields k ≡ Some f → (g : ℕ) (c : Declaration) → IsMember schema g (at k) c → TakesNone schema.program (at k)) → (j : ℕ) → IsIn j js → TakesNone schema.program j
       rest_is again j (k, jat) =
@@ -347,7 +160,7 @@ module _ (schema : Declared) (good : IsSchema schema) where
       let is = good.entries i t e.0 at e.1 in
       (e.0, e.1, ap (λ (x : Declaration). x.fields) is.1, ap (λ (x : Declaration). x.head) is.1)
 
-  kind_meant : (t : DeclText) (kind : KindText) (j : ℕ) → HoldsBare schema.program t kind j → IsBareAt (kind_shape schema.program t kind) j
+  kind_meant : (t : DeclText) (kind : KindText) (j : ℕ) → HoldsBare schema.program t kind j → IsBareAt (held_shape schema.program t kind) j
   kind_meant t nat j h = absurd h
   kind_meant t flag j h = absurd h
   kind_meant t (call var) j h = absurd h
@@ -382,10 +195,16 @@ module _ (schema : Declared) (good : IsSchema schema) where
 
   some_member : (h : ℕ) → h < length (types_of schema.program) → (i : ℕ) × (d : Declaration) × IsMember schema h i d
   some_member h known =
-      let x = get_some (types_of schema.program) h known in
-      let m = (types_made schema.program).made h x.0 x.1 in
-      let e = entry_of m.0 m.1 m.2 in
-      (m.0, e.0, record { there = e.1; head = e.3 ∙ ap (head_in schema.program) m.3 ∙ number_of_type schema.program h x.0 x.1; known = known })
+      let found = get_some (types_of schema.program) h known in
+      let numbered = number_of schema.program h found.0 found.1 in
+      by found.0 numbered (type_first schema.program found.0 (Some h) numbered)
+    where
+      by : (name : List ℕ) → type_named schema.program name ≡ Some h → ((k : Option ℕ) × FirstOf schema.program name k × (is_some k ≡ true)) → (i : ℕ) × (d : Declaration) × IsMember schema h i d
+      by name numbered (Some i, first, is) =
+          let one = first.0.1 in
+          let e = entry_at schema good i first.0.0 one.there in
+          (i, e.0, member schema good name h numbered i first.0.0 e.0 one e.1 e.2)
+      by name numbered (None, none, is) = absurd (true≢false (sym is))
 
 pub empties_tell : (schema : Declared) → IsSchema schema → EmptiesTell schema
 empties_tell schema good = record {

@@ -26,5 +26,4 @@ pub mod AddingParts
 pub mod ReferenceLists
 pub mod BareFields
 pub mod EmptyNodes
-pub mod TestedIndexes
 pub mod FirstIndexes

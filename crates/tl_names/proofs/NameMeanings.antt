@@ -9,7 +9,7 @@ use Rattle.tl_program.specs.Trees.{Tree, named, percent, any_call}
 use Rattle.tl_program.specs.Program.{DeclText}
 use Rattle.tl_program.specs.BuiltIns.{built_in}
 use Rattle.tl_program.specs.declared.built_in.BuiltIn.{BuiltIn}
-use Rattle.tl_names.specs.Writing.{is_built_in, is_constructor, is_type_name, is_variable, own_type, head_in, result_head, IsConstructorNamed}
+use Rattle.tl_names.specs.Writing.{is_built_in, is_constructor, is_type_name, is_variable, own_type, head_in, result_head, IsConstructorOf}
 use Rattle.tl_names.specs.NameLists.{with_name}
 use Rattle.tl_names.specs.Indexes.{is_type, types_of, with_type_of}
 use Rattle.tl_names.specs.Constructors.{FirstNamed, FirstOf}
@@ -18,27 +18,11 @@ use Rattle.tl_names.specs.Meants.{MeantView, meant}
 use Rattle.tl_names.specs.Meants as resolved
 use Rattle.tl_names.specs.MeantDecls.{head_number}
 use Rattle.tl_names.specs.declared.what.What.{What}
-use Rattle.tl_names.proofs.Indexes.{HoldsAt, first_same}
-use Rattle.tl_names.proofs.Positions.{first_position, position_not_there, position_there}
-use Rattle.tl_names.proofs.IndexSteps.{Makes, made_index, index_made}
-use Rattle.tl_names.proofs.FirstIndexes.{IsNamed, is_named, makes}
-
--- ---- constructors of a name
-
--- the index of a name is that of its first constructor
-pub first_named : (ds : List DeclText) (name : List ℕ) → FirstNamed ds name (constructor_named ds name)
-first_named ds name =
-    first_same _ _ (λ j (p : HoldsAt (IsNamed name) ds j). (p.x, record { there = p.there; own = p.has.0; named = p.has.1 })) (λ j (c : (d : DeclText) × IsConstructorNamed ds name j d). record { x = c.0; there = c.1.there; has = (c.1.own, c.1.named) }) (constructor_named ds name) (first_position _ (IsNamed name) (is_named name) ds)
-
--- ---- constructors of a type
+use Rattle.tl_names.proofs.Positions.{position_not_there, position_there}
+use Rattle.tl_names.proofs.FirstIndexes.{first_made, first_named}
 
 abbrev makes_type : List ℕ → DeclText → Bool
 makes_type type d = is_type type (own_type d)
-
--- the first constructor of a type
-pub first_made : (ds : List DeclText) (type : List ℕ) → FirstOf ds type (position (makes_type type) ds)
-first_made ds type =
-    first_same _ _ (index_made ds type) (made_index ds type) (position (makes_type type) ds) (first_position _ (Makes type) (makes type) ds)
 
 -- ---- a type has a number where a constructor makes it
 
@@ -86,6 +70,18 @@ module _ (ds : List DeclText) (type : List ℕ) where
           let none = position_not_there (bytes_eq type) (types_of ds) (among_folded type [] ds ∙ e) in
           (position (makes_type type) ds, first_made ds type, ap is_some (position_not_there (makes_type type) ds e) ∙ ap is_some (sym none ∙ at))
 
+  -- so a type that a constructor makes has a number
+  pub type_number : (j : ℕ) (c : DeclText) → IsConstructorOf ds type j c → (n : ℕ) × (type_named ds type ≡ Some n)
+  type_number j c one = by (type_named ds type) refl
+    where
+      by : (o : Option ℕ) → type_named ds type ≡ o → (n : ℕ) × (type_named ds type ≡ Some n)
+      by (Some n) at = (n, at)
+      by None at = none_made (type_first None at)
+        where
+          none_made : ((k : Option ℕ) × FirstOf ds type k × (is_some k ≡ false)) → (n : ℕ) × (type_named ds type ≡ Some n)
+          none_made (Some k, first, e) = absurd (true≢false e)
+          none_made (None, none, e) = absurd (none j (c, one))
+
 -- ---- the meanings of a name
 
 if_vector : (a b c d e f g h : Bool) → ◌≡◌ {A = Option BuiltIn} (if a then Some BuiltIn.Int else if b then Some BuiltIn.Long else if c then Some BuiltIn.Double else if d then Some BuiltIn.Str else if e then Some BuiltIn.Bytes else if f then Some BuiltIn.Vector else if g then Some BuiltIn.Int128 else if h then Some BuiltIn.Int256 else None) (Some BuiltIn.Vector) → f ≡ true
@@ -99,7 +95,7 @@ if_vector false false false false false false true h is = absurd cc
 if_vector false false false false false false false true is = absurd cc
 if_vector false false false false false false false false is = absurd cc
 
-vector_name : (name : List ℕ) → built_in name ≡ Some BuiltIn.Vector → name ≡ codes "vector"
+pub vector_name : (name : List ℕ) → built_in name ≡ Some BuiltIn.Vector → name ≡ codes "vector"
 vector_name name is = (bytes_eq-Decides name (codes "vector")).0 (if_vector _ _ _ _ _ _ _ _ is)
 
 -- what the name means where d writes it, in each case what it is there
@@ -183,7 +179,7 @@ is_lower name lower upper e = by (bytes_eq name lower) refl
     by false h = h
 
 -- no built-in bare type has a type's name
-upper_no_base : (name : List ℕ) → is_type_name name ≡ true → built_in name ≡ None
+pub upper_no_base : (name : List ℕ) → is_type_name name ≡ true → built_in name ≡ None
 upper_no_base name up =
     rw (is_lower name (codes "int") up refl, is_lower name (codes "long") up refl, is_lower name (codes "double") up refl, is_lower name (codes "string") up refl, is_lower name (codes "bytes") up refl, is_lower name (codes "vector") up refl, is_lower name (codes "int128") up refl, is_lower name (codes "int256") up refl) refl
 

@@ -38,7 +38,7 @@ module _ (P : Tree → Type 0) (ts : List Tree) (i : ℕ) where
 
 -- ---- parts of a type, by its form
 
-is_own_part : (t : Tree) → IsPart t t
+pub is_own_part : (t : Tree) → IsPart t t
 is_own_part (named name ts) = inl refl
 is_own_part (percent t) = inl refl
 is_own_part any_call = refl

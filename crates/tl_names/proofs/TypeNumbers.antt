@@ -1,19 +1,25 @@
 -- The numbers of the types of a program, as its declarations come.
-use Rattle.std.proofs.Common.{◌≡◌, ℕ, ◌+◌, ◌≤◌, Bool, true, false, List, [], ◌∷◌, ◌++◌, length, bytes_eq, get_or, Option, Some, None, refl, ap, sym, ◌∙◌, if◌then◌else◌, length-append, arith}
+use Rattle.std.proofs.Common.{◌≡◌, inl, inr, ℕ, ◌+◌, ◌≤◌, Bool, true, false, List, [], ◌∷◌, ◌++◌, length, bytes_eq, get_or, slice_get, Option, Some, None, refl, ap, ap₂, sym, ◌∙◌, if◌then◌else◌, length-append, arith}
 use Rattle.std.specs.List.{fold, list_any}
 use Rattle.std.specs.Option.{unwrap_or, is_some}
 use Rattle.std.proofs.lemmas.List.Quantifiers.{position-Some}
 use Rattle.std.proofs.lemmas.List.Sums.{fold_push}
+use Rattle.std.proofs.lemmas.Option.{none-some, slice_get-get_or}
 use Rattle.std.proofs.lemmas.Slice.Eq.{bytes_eq-Decides}
 use Rattle.tl_program.specs.Program.{DeclText}
 use Rattle.tl_names.specs.Writing.{own_type}
 use Rattle.tl_names.specs.NameLists.{position_of, with_name}
 use Rattle.tl_names.specs.Indexes.{types_of, with_type_of}
+use Rattle.tl_names.specs.What.{type_named}
 use Rattle.tl_names.specs.inner.Indexed.{AreNumbered, IndexesTypes}
 use Rattle.tl_names.specs.declared.index.Constructors.{Constructors}
+use Rattle.tl_names.proofs.Indexes.{get_cases}
 use Rattle.tl_names.proofs.Positions.{position_push, position_there, position_not_there}
 
 -- ---- one name more
+
+abbrev StandAtNumbers : List (List ℕ) → Type 0
+StandAtNumbers names = (n : ℕ) (name : List ℕ) → slice_get names n ≡ Some name → position_of name names ≡ Some n
 
 module _ (names : List (List ℕ)) (name : List ℕ) where
   abbrev with_known : Bool → List (List ℕ)
@@ -49,6 +55,25 @@ module _ (names : List (List ℕ)) (name : List ℕ) where
       by true e = omega (arith, ap (λ b. length (with_known b)) e)
       by false e = omega (arith, ap (λ b. length (with_known b)) e, length-append names (name ∷ []))
 
+  -- each name stands at its number
+  pub stands_more : StandAtNumbers names → StandAtNumbers (with_name names name)
+  stands_more before n other at = index_with_name other ∙ by (list_any (bytes_eq name) names) refl
+    where
+      number_by : Bool → Option ℕ → Option ℕ
+      number_by b o = if b then Some (unwrap_or o (length names)) else o
+
+      kept : (b : Bool) → slice_get names n ≡ Some other → number_by b (position_of other names) ≡ Some n
+      kept true there = ap (λ o. Some (unwrap_or o (length names))) (before n other there)
+      kept false there = before n other there
+
+      by : (b : Bool) → list_any (bytes_eq name) names ≡ b → number_by (bytes_eq other name) (position_of other names) ≡ Some n
+      by true e = kept (bytes_eq other name) (sym (ap (λ b. slice_get (with_known b) n) e) ∙ at)
+      by false e = elim (get_cases names name n other (sym (ap (λ b. slice_get (with_known b) n) e) ∙ at)) [
+        | inl there ↦ kept (bytes_eq other name) there
+        | inr last ↦
+            ap₂ number_by ((bytes_eq-Decides other name).1 (sym last.1)) (ap (λ x. position_of x names) (sym last.1) ∙ position_not_there (bytes_eq name) names e) ∙ ap Some (sym last.0)
+      ]
+
 -- ---- one declaration more
 
 abbrev with_type : List (List ℕ) → DeclText → List (List ℕ)
@@ -68,6 +93,25 @@ few_folded types (d ∷ ds) = omega (arith, few_folded (with_type types d) ds, o
 
 pub few_types : (ds : List DeclText) → length (types_of ds) ≤ length ds
 few_types ds = omega (arith, few_folded [] ds)
+
+-- ---- a type and its number
+
+stands_with : (types : List (List ℕ)) (o : Option (List ℕ)) → StandAtNumbers types → StandAtNumbers (with_type_of types o)
+stands_with types None before = before
+stands_with types (Some type) before = stands_more types type before
+
+stands_folded : (types : List (List ℕ)) (ds : List DeclText) → StandAtNumbers types → StandAtNumbers (fold with_type types ds)
+stands_folded types [] before = before
+stands_folded types (d ∷ ds) before = stands_folded (with_type types d) ds (stands_with types (own_type d) before)
+
+module _ (ds : List DeclText) where
+  pub number_of : (n : ℕ) (type : List ℕ) → slice_get (types_of ds) n ≡ Some type → type_named ds type ≡ Some n
+  number_of = stands_folded [] ds (λ n type at. absurd (none-some type at))
+
+  pub type_at : (type : List ℕ) (n : ℕ) → type_named ds type ≡ Some n → slice_get (types_of ds) n ≡ Some type
+  type_at type n at =
+      let found = position-Some (bytes_eq type) (types_of ds) n type at in
+      slice_get-get_or (types_of ds) n type found.0 ∙ ap Some (sym ((bytes_eq-Decides type (get_or (types_of ds) n type)).0 found.1))
 
 -- ---- numbers of an index
 

@@ -2,6 +2,5 @@
 pub mod Resolved
 pub mod WhatSteps
 pub mod BareSteps
-pub mod Scopes
 pub mod Indexed
 pub mod DeclCodes

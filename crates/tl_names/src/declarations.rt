@@ -49,8 +49,8 @@ fn meant_decl(alloc: Global, index: &Index, decl: &Decl) -> Result<MeantDecl, Al
     })
 }
 
-/// The first index of each of the names.
-pub fn numbered(alloc: Global, hash: NameHash, names: &[Bytes]) -> Result<Names, AllocError>
+// The first index of each of the names.
+fn numbered(alloc: Global, hash: NameHash, names: &[Bytes]) -> Result<Names, AllocError>
     requires { length names.now ≤ part_limit }
     ensures { IfOk result (NumbersNames names.now) }
 {

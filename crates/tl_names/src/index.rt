@@ -1,10 +1,10 @@
 //! The declarations of a program by name.
 ghost use Rattle.std.specs.Prelude.{◌≡◌, ◌∷◌, [], ◌++◌, ◌<◌, ◌≤◌, ◌^◌, ℕ, List, length, slice_get, IfOk, OnOk, None, Some};
 ghost use Rattle.tl_program.specs.Program.{DeclText, decl_text, program_text};
-ghost use Rattle.tl_names.specs.Constructors.{AreConstructors, IsFamily, var_counts};
+ghost use Rattle.tl_names.specs.Constructors.{IsFamily, var_counts};
 ghost use Rattle.tl_names.specs.inner.Indexed.{AreNumbered, Changes, IndexesNames, IndexesTypes, one_more};
 ghost use Rattle.tl_names.specs.NameIndexes.{index_among};
-ghost use Rattle.tl_names.specs.Indexes.{types_of};
+ghost use Rattle.tl_names.specs.Indexes.{first_numbered, types_of};
 ghost use Rattle.tl_names.specs.What.{base_what, constructor_named, declared_what, known_what, type_meant, type_named, unless_variable};
 ghost use Rattle.tl_names.specs.Writing.{own_type};
 
@@ -173,14 +173,6 @@ impl Index {
         self.families.len() as u32
     }
 
-    /// The constructors of the type with this number.
-    pub fn constructors(&self, number: u32) -> Constructors
-        requires { number < length (types_of self.now) }
-        ensures { (type : List ℕ) → type_named self.now type ≡ Some number → AreConstructors self.now type result }
-    {
-        self.families[number as usize]
-    }
-
     /// The constructors of the type with this number; none where no type has it.
     pub fn family(&self, number: u32) -> Option<Constructors>
         ensures family { (type : List ℕ) → type_named self.now type ≡ Some number → IsFamily self.now type result }
@@ -196,18 +188,18 @@ impl Index {
         self.vars.get(at as usize).copied()
     }
 
-    /// The constructors of the type with this name.
-    pub fn constructors_of(&self, name: &[u8]) -> Option<Constructors>
-        ensures { IsFamily self.now name.now result }
+    /// The index of the first constructor of the type with this number; the number of declarations where no type has it.
+    pub fn first(&self, number: u32) -> u32
+        ensures { result ≡ first_numbered self.now number }
     {
-        match self.types.get(name) {
-            Some(number) => Some(self.families[number as usize]),
-            None => None,
+        match self.family(number) {
+            Some(constructors) => constructors.first,
+            None => self.count(),
         }
     }
 
-    /// The number of declarations.
-    pub fn count(&self) -> u32
+    // The number of declarations.
+    fn count(&self) -> u32
         ensures { result ≡ length self.now }
     {
         self.vars.len() as u32

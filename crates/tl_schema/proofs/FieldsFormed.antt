@@ -1,10 +1,11 @@
 -- In a schema each field has a good condition, and is a flag or has a formed type.
 use Rattle.std.proofs.Common.{◌≡◌, ◌⊎◌, inl, inr, ℕ, ◌+◌, ◌-◌, ◌<◌, ◌&&◌, not, Bool, true, false, List, length, map, slice_get, bytes_eq, Option, Some, None, refl, ap, sym, ◌∙◌, subst, arith, if◌then◌else◌}
-use Rattle.std.specs.Option.{option_map}
+use Rattle.std.specs.Option.{option_map, unwrap_or}
+use Rattle.std.proofs.lemmas.List.Quantifiers.{position-Some}
 use Rattle.std.proofs.lemmas.Bool.{cases_order}
 use Rattle.std.proofs.lemmas.Option.{none-some, same_Some, slice_get_cases, slice_get-map}
 use Rattle.std.proofs.lemmas.Slice.Eq.{bytes_eq-Decides}
-use Rattle.tl_program.specs.Trees.{Tree, named, percent, any_call}
+use Rattle.tl_program.specs.Trees.{Tree}
 use Rattle.tl_program.specs.Program.{KindText, nat, flag, call, of, CondText, FieldText, DeclText}
 use Rattle.tl_names.specs.Writing.{At, is_function}
 use Rattle.tl_names.specs.Parts.{FieldAt, HeldBy, InFields, Writes}
@@ -17,16 +18,18 @@ use Rattle.tl_schema.specs.declared.fault.CheckCause.TheVariants as cause
 use Rattle.tl_schema.specs.CheckedPrograms.{IsSchema}
 use Rattle.tl_schema.specs.Types as shape
 use Rattle.tl_schema.specs.Schemas.{Slot, Declaration, Declared}
-use Rattle.tl_names.specs.Indexes.{variable_of}
-use Rattle.tl_schema.specs.Meanings.{kind_shape, field_index, condition_of, slot_of, declaration_of}
+use Rattle.tl_names.specs.MeantDecls.{cond_by}
+use Rattle.tl_names.specs.What.{field_named, variable_named}
+use Rattle.tl_schema.specs.Meanings.{condition_of, slot_of, declaration_of}
 use Rattle.tl_schema.specs.Formed.{IsFormedOver, IsCondition, IsFormedField}
 use Rattle.tl_schema.specs.FormedLaws.{FieldsAreFormed}
 use Rattle.tl_names.proofs.HeadNames.{type_name}
 use Rattle.tl_schema.proofs.BadFlagFirst.{flags_before_decided}
 use Rattle.tl_schema.proofs.ListParts.{slice_get_after}
 use Rattle.tl_names.proofs.Maps.{slice_get_made}
-use Rattle.tl_names.proofs.TestedIndexes.{first_passes}
-use Rattle.tl_schema.proofs.TypeIndexes.{first_that_passes}
+use Rattle.tl_names.proofs.Firsts.{one_first}
+use Rattle.tl_names.proofs.Positions.{first_position}
+use Rattle.tl_schema.proofs.MeantTypes.{held_shape}
 use Rattle.tl_schema.proofs.Members.{declaration_at}
 use Rattle.tl_schema.proofs.FormedTypes.{IsFine, type_formed}
 
@@ -68,9 +71,9 @@ module _ (schema : Declared) (good : IsSchema schema) (i : ℕ) (d : DeclText) (
       }))
 
   -- so the field is at the index of its name
-  field_index_is : (k : ℕ) (g : FieldText) (name : List ℕ) → FieldAt d k g → g.name ≡ name → k ≡ field_index d name
-  field_index_is k g name at is =
-      first_passes (λ (f : FieldText). bytes_eq name f.name) (λ (f : FieldText). name ≡ f.name) (λ (f : FieldText). bytes_eq-Decides name f.name) d.fields k
+  field_named_is : (k : ℕ) (g : FieldText) (name : List ℕ) → FieldAt d k g → g.name ≡ name → field_named d name ≡ Some k
+  field_named_is k g name at is =
+      one_first _ (field_named d name) (Some k) (first_position (λ (f : FieldText). bytes_eq name f.name) (λ (f : FieldText). name ≡ f.name) (λ (f : FieldText). bytes_eq-Decides name f.name) d.fields)
       (record { x = g; there = at; has = sym is }, λ j below p. apart j k p.x g below p.there at (sym p.has ∙ sym is))
 
   module _ (k : ℕ) where
@@ -84,18 +87,18 @@ module _ (schema : Declared) (good : IsSchema schema) (i : ℕ) (d : DeclText) (
       | inr (inr less) ↦ omega (arith, less)
     ]
 
-    condition : (o : Option CondText) → (IsBadCondition d k o → ⊥) → IsCondition (map (slot_of schema.program d) d.fields) k (option_map (condition_of d) o)
+    condition : (o : Option CondText) → (IsBadCondition d k o → ⊥) → IsCondition (map (slot_of schema.program d) d.fields) k (option_map (condition_of (length d.fields)) (option_map (cond_by (field_named d)) o))
     condition None good_one = tt
     condition (Some c) good_one =
         let b = flags_before c good_one in
-        let is : b.earlier ≡ field_index d c.flags = field_index_is b.earlier b.f c.flags b.there b.name in
+        let is : b.earlier ≡ unwrap_or (field_named d c.flags) (length d.fields) = sym (ap (λ o. unwrap_or o (length d.fields)) (field_named_is b.earlier b.f c.flags b.there b.name)) in
         let before = b.before in (
           omega (arith, is, before),
           bit_below c good_one,
           (
             slot_of schema.program d b.f,
             sym (ap (slice_get (map (slot_of schema.program d) d.fields)) is) ∙ slice_get_made (slot_of schema.program d) d.fields b.earlier b.f b.there,
-            ap (kind_shape schema.program d) b.number,
+            ap (held_shape schema.program d) b.number,
           ),
         )
 
@@ -105,7 +108,7 @@ module _ (schema : Declared) (good : IsSchema schema) (i : ℕ) (d : DeclText) (
     written : (u : Tree) → InFields d u → Writes d u
     written u part = record { own = own; there = inl part }
 
-    module _ (n : ℕ) (below : (u : Tree) → InFields d u → NamesVariable d u → variable_of d (type_name u) < n) where
+    module _ (n : ℕ) (below : (u : Tree) → InFields d u → NamesVariable d u → (i : ℕ) → variable_named d (type_name u) ≡ Some i → i < n) where
       known : NoneHas schema.program cause.UnknownType
       known = good.passes.1.0
 
@@ -127,7 +130,7 @@ module _ (schema : Declared) (good : IsSchema schema) (i : ℕ) (d : DeclText) (
         below = below u part;
       }
 
-      kind_formed : (k : ℕ) (g : FieldText) → FieldAt d k g → (kind : KindText) → g.kind ≡ kind → (kind_shape schema.program d kind ≡ shape.flag) ⊎ IsFormedOver schema n (kind_shape schema.program d kind)
+      kind_formed : (k : ℕ) (g : FieldText) → FieldAt d k g → (kind : KindText) → g.kind ≡ kind → (held_shape schema.program d kind ≡ shape.flag) ⊎ IsFormedOver schema n (held_shape schema.program d kind)
       kind_formed k g at nat e = inr tt
       kind_formed k g at flag e = inl refl
       kind_formed k g at (call var) e = inr tt
@@ -142,14 +145,9 @@ module _ (schema : Declared) (good : IsSchema schema) (i : ℕ) (d : DeclText) (
     no_variable : d.function ≡ true → (u : Tree) → InFields d u → NamesVariable d u → ⊥
     no_variable function u part is = misuses i (record { d = d; here = here; has = in_field function (part.0, part.1, part.2, (u, part.3, is)) })
 
-    variable_below : (u : Tree) → NamesVariable d u → variable_of d (type_name u) < length d.vars
-    variable_below (named name args) is = (first_that_passes (bytes_eq name) d.vars is).3
-    variable_below (percent t) is = absurd is
-    variable_below any_call is = absurd is
-
-    below_by : (b : Bool) → is_function d ≡ b → (u : Tree) → InFields d u → NamesVariable d u → variable_of d (type_name u) < (if b then 0 else length d.vars)
-    below_by true e u part is = absurd (no_variable (both_first d.function (not d.builtin) e) u part is)
-    below_by false e u part is = variable_below u is
+    below_by : (b : Bool) → is_function d ≡ b → (u : Tree) → InFields d u → NamesVariable d u → (i : ℕ) → variable_named d (type_name u) ≡ Some i → i < (if b then 0 else length d.vars)
+    below_by true e u part is i at = absurd (no_variable (both_first d.function (not d.builtin) e) u part is)
+    below_by false e u part is i at = (position-Some (bytes_eq (type_name u)) d.vars i (type_name u) at).0
 
     field_formed : (m k : ℕ) (g : FieldText) → FieldAt d k g → IsFormedField schema (declaration_of schema.program d m) k (slot_of schema.program d g)
     field_formed m k g at = record {

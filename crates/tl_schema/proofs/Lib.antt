@@ -3,7 +3,6 @@ pub mod BareParts
 pub mod AppliedTypes
 pub mod SameNames
 pub mod Results
-mod TypeNames
 pub mod SmallPrograms
 pub mod FieldConditions
 mod NameCases
@@ -47,9 +46,8 @@ pub mod OneType
 pub mod OneAnswer
 mod TypeSteps
 pub mod ClosedFormed
-mod TypeIndexes
-pub mod BuiltInNames
 pub mod Members
+pub mod BareShapes
 pub mod FormedTypes
 pub mod FieldsFormed
 pub mod AskedFormed

@@ -1,35 +1,13 @@
 -- What an entry takes from a resolved declaration.
-use Rattle.std.proofs.Common.{◌≡◌, Bool, ℕ, List, length, map, slice_get, bytes_eq, Option, Some, None, refl, ap, sym, ◌∙◌}
-use Rattle.std.specs.Option.{option_map, unwrap_or}
+use Rattle.std.proofs.Common.{◌≡◌, Bool, ℕ, List, length, map, slice_get, Some, refl, ap, sym, ◌∙◌}
 use Rattle.std.proofs.lemmas.List.{length-map}
-use Rattle.std.proofs.lemmas.Option.{none-some, same_Some}
-use Rattle.tl_program.specs.Program.{CondText, DeclText, FieldText}
-use Rattle.tl_names.specs.Indexes.{types_of}
+use Rattle.std.proofs.lemmas.Option.{same_Some}
+use Rattle.tl_program.specs.Program.{DeclText}
 use Rattle.tl_names.specs.Writing.{is_function, own_type}
-use Rattle.tl_names.specs.MeantDecls.{cond_by, head_number}
-use Rattle.tl_names.specs.What.{field_named}
-use Rattle.tl_names.specs.declared.meant.MeantCond.{MeantCond}
 use Rattle.tl_names.proofs.Maps.{slice_get_made}
-use Rattle.tl_schema.specs.Meanings.{condition_of, declaration_of, head_in, result_shape, slot_of}
+use Rattle.tl_schema.specs.Meanings.{declaration_of, head_in, result_shape, slot_of}
 use Rattle.tl_schema.specs.Schemas.{Declaration, Slot}
 use Rattle.tl_schema.specs.Types.{Shape}
-use Rattle.tl_names.proofs.TestedIndexes.{position_unwrapped}
-
--- the number of its type, or the number of types
-pub head_unwrapped : (ds : List DeclText) (o : Option (List ℕ)) → unwrap_or (head_number ds o) (length (types_of ds)) ≡ head_in ds o
-head_unwrapped ds (Some type) = position_unwrapped (bytes_eq type) (types_of ds)
-head_unwrapped ds None = refl
-
--- the index of the field of a condition, or the number of fields
-pub condition_meant : (d : DeclText) (c : Option CondText) (m : MeantCond) → Some m ≡ option_map (cond_by (field_named d)) c → Some (unwrap_or m.flags (length d.fields), m.bit) ≡ option_map (condition_of d) c
-condition_meant d None m is = absurd (none-some m (sym is))
-condition_meant d (Some c) m is =
-    let same = same_Some m (cond_by (field_named d) c) is in
-    ap (λ (n : MeantCond). Some (unwrap_or n.flags (length d.fields), n.bit)) same ∙ ap (λ (n : ℕ). Some (n, c.bit)) (position_unwrapped (λ (f : FieldText). bytes_eq c.flags f.name) d.fields)
-
-pub no_condition_meant : (d : DeclText) (c : Option CondText) → None ≡ option_map (cond_by (field_named d)) c → None ≡ option_map (condition_of d) c
-no_condition_meant d None is = refl
-no_condition_meant d (Some c) is = absurd (none-some (cond_by (field_named d) c) is)
 
 -- lists of which the same is made have the same length, and the same is made of each two elements
 module _ {X Y Z : Type 0} (f : X → Z) (g : Y → Z) (xs : List X) (ys : List Y) (same : map f xs ≡ map g ys) where

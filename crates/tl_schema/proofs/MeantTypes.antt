@@ -1,10 +1,19 @@
--- What several types mean, one after another.
+-- What types mean and what fields hold, where a declaration writes them.
 use Rattle.std.proofs.Common.{◌≡◌, List, [], ◌∷◌, map, refl, ap}
-use Rattle.tl_program.specs.Trees.{Tree, trees_of}
-use Rattle.tl_program.specs.Program.{DeclText}
-use Rattle.tl_schema.specs.Types.{shape, shapes_of}
-use Rattle.tl_schema.specs.Meanings.{meaning, meanings}
+use Rattle.tl_program.specs.Trees.{Trees}
+use Rattle.tl_program.specs.Program.{DeclText, KindText}
+use Rattle.tl_names.specs.Meants.{MeantView, meants, meants_of}
+use Rattle.tl_names.specs.MeantDecls.{kind_by}
+use Rattle.tl_names.specs.What.{variable_named, what_of}
+use Rattle.tl_schema.specs.Types.{Shape, Shapes, shape, shapes_of}
+use Rattle.tl_schema.specs.Meanings.{kind_shape, meant_shape, meant_shapes}
 
-pub meanings_of_each : (ds : List DeclText) (d : DeclText) (ts : List Tree) → shapes_of (map (meaning ds d) ts) ≡ meanings ds d (trees_of ts)
-meanings_of_each ds d [] = refl
-meanings_of_each ds d (t ∷ ts) = ap (shape (meaning ds d t)) (meanings_of_each ds d ts)
+abbrev pub meanings : List DeclText → DeclText → Trees → Shapes
+meanings ds d ts = meant_shapes ds (meants ds d ts)
+
+abbrev pub held_shape : List DeclText → DeclText → KindText → Shape
+held_shape ds d kind = kind_shape ds (kind_by (what_of ds d) (variable_named d) kind)
+
+pub shapes_of_each : (ds : List DeclText) (ms : List MeantView) → shapes_of (map (meant_shape ds) ms) ≡ meant_shapes ds (meants_of ms)
+shapes_of_each ds [] = refl
+shapes_of_each ds (m ∷ ms) = ap (shape (meant_shape ds m)) (shapes_of_each ds ms)

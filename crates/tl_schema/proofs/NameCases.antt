@@ -1,7 +1,7 @@
 -- What the checks ask of a name, by what it means.
-use Rattle.std.proofs.Common.{◌≡◌, ◌≢◌, ◌↔◌, if◌then◌else◌, inl, inr, ℕ, Bool, true, false, ◌||◌, List, length, bytes_eq, Option, Some, None, refl, ap, sym, subst, ◌∙◌, true≢false}
+use Rattle.std.proofs.Common.{◌≡◌, ◌≢◌, ◌↔◌, inl, inr, ℕ, Bool, true, false, ◌||◌, List, length, bytes_eq, Option, Some, None, refl, ap, sym, subst, ◌∙◌, true≢false}
 use Rattle.std.specs.Prelude.{codes, IsTrue}
-use Rattle.std.proofs.lemmas.Bool.{both_ways}
+use Rattle.std.proofs.lemmas.Bool.{both_ways, false_from_ne_true}
 use Rattle.std.proofs.lemmas.Option.{none-some, same_Some, slice_get-map}
 use Rattle.std.proofs.lemmas.Slice.Eq.{bytes_eq-Decides}
 use Rattle.std.specs.Option.{option_map}
@@ -12,7 +12,7 @@ use Rattle.tl_names.specs.Writing.{is_built_in, is_type_name, is_variable, is_ve
 use Rattle.tl_names.specs.Constructors.{IsSingle}
 use Rattle.tl_names.specs.What.{what_of}
 use Rattle.tl_names.specs.declared.what.What.{What}
-use Rattle.tl_names.proofs.NameMeanings.{Means, means, variable, base, bare_vector, boxed_vector, type, constructor, no_type, no_constructor}
+use Rattle.tl_names.proofs.NameMeanings.{Means, means, upper_no_base, variable, base, bare_vector, boxed_vector, type, constructor, no_type, no_constructor}
 use Rattle.tl_schema.specs.inner.Arities.{IsArity}
 use Rattle.tl_schema.specs.inner.BareForms.{IsBareName}
 use Rattle.tl_schema.specs.UnknownType.{IsUnknown, IsUnknownIn}
@@ -26,17 +26,8 @@ never none = (λ h. absurd (true≢false (sym h)), λ p. absurd (none p))
 
 -- ---- the built-in names begin in lower case
 
-unless : (name own : List ℕ) (x y : BuiltIn) (rest : Option BuiltIn) → is_type_name own ≡ false → (rest ≡ Some x → is_type_name name ≡ false) → (if bytes_eq name own then Some y else rest) ≡ Some x → is_type_name name ≡ false
-unless name own x y rest lower other = by _ refl
-  where
-    by : (b : Bool) → bytes_eq name own ≡ b → (if b then Some y else rest) ≡ Some x → is_type_name name ≡ false
-    by true e h = ap is_type_name ((bytes_eq-Decides name own).0 e) ∙ lower
-    by false e h = other h
-
-lower_built_in : (name : List ℕ) (x : BuiltIn) → built_in name ≡ Some x → is_type_name name ≡ false
-lower_built_in name x =
-    unless name (codes "int") x _ _ refl (unless name (codes "long") x _ _ refl (unless name (codes "double") x _ _ refl (unless name (codes "string") x _ _ refl
-    (unless name (codes "bytes") x _ _ refl (unless name (codes "vector") x _ _ refl (unless name (codes "int128") x _ _ refl (unless name (codes "int256") x _ None refl (λ h. absurd (none-some x h)))))))))
+pub lower_built_in : (name : List ℕ) (x : BuiltIn) → built_in name ≡ Some x → is_type_name name ≡ false
+lower_built_in name x at = false_from_ne_true (is_type_name name) (λ upper. none-some x (sym (upper_no_base name upper) ∙ at))
 
 module _ (ds : List DeclText) (d : DeclText) (name : List ℕ) where
   -- ---- whether it is unknown

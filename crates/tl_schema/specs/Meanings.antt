@@ -3,15 +3,18 @@
 -- their indexes is this project's own.
 -- In a program that passes the checks each name has a declaration, and each application the right number of arguments. What these
 -- definitions say where that is not so is of no use: an index past the end, or a call in place of a type.
-use Rattle.std.specs.Prelude.{◌≡◌, ℕ, ◌<◌, ◌^◌, List, length, map, Bool, true, false, bytes_eq, codes, Option, Some, None, unwrap_or, if◌then◌else◌}
+use Rattle.std.specs.Prelude.{◌≡◌, ℕ, ◌<◌, ◌^◌, List, length, map, Bool, true, false, bytes_eq, codes, Option, None, unwrap_or, if◌then◌else◌}
 use Rattle.std.specs.Option.{option_map}
-use Rattle.std.specs.List.{position_or_len}
-use Rattle.tl_program.specs.Trees.{Tree, Trees, named, percent, any_call, no_trees, tree}
-use Rattle.tl_program.specs.Program.{KindText, nat, flag, call, of, CondText, FieldText, DeclText}
+use Rattle.tl_program.specs.Trees.{Tree}
+use Rattle.tl_program.specs.Program.{FieldText, DeclText}
 use Rattle.tl_program.specs.BuiltIns.{built_in}
 use Rattle.tl_program.specs.declared.built_in.BuiltIn.{BuiltIn}
-use Rattle.tl_names.specs.Writing.{At, is_function, is_type_name, is_variable, own_type}
-use Rattle.tl_names.specs.Indexes.{types_of, head_of, constructor_index, first_of, variable_of}
+use Rattle.tl_names.specs.Writing.{At, is_function, own_type}
+use Rattle.tl_names.specs.Indexes.{types_of, first_numbered}
+use Rattle.tl_names.specs.Meants.{MeantView, named, percent, any_call, MeantViews, no_meants, and_meant, meant}
+use Rattle.tl_names.specs.MeantDecls.{MeantKindView, nat, flag, call, of, MeantFieldView, head_number, meant_field}
+use Rattle.tl_names.specs.declared.meant.MeantCond.{MeantCond}
+use Rattle.tl_names.specs.declared.what.What.{What}
 use Rattle.tl_schema.specs.Numbers.{IsNumberOf}
 use Rattle.tl_schema.specs.Types.{Shape, Shapes, no_shapes, shape}
 use Rattle.tl_schema.specs.Types as shape
@@ -19,100 +22,88 @@ use Rattle.tl_schema.specs.Schemas.{Slot, Declaration, vector_number}
 
 -- ---- types
 
+-- a built-in type, as its line has it: `vector` is boxed there, and of a variable
+abbrev pub built_in_shape : BuiltIn → Shape
+built_in_shape BuiltIn.Int = shape.int
+built_in_shape BuiltIn.Long = shape.long
+built_in_shape BuiltIn.Double = shape.opaque 8
+built_in_shape BuiltIn.Str = shape.str
+built_in_shape BuiltIn.Bytes = shape.raw
+built_in_shape BuiltIn.Vector = shape.vector true (shape.var 0)
+built_in_shape BuiltIn.Int128 = shape.opaque 16
+built_in_shape BuiltIn.Int256 = shape.opaque 32
+
 -- the only type of an application
 abbrev pub item_of : Shapes → Shape
 item_of no_shapes = shape.call
 item_of (shape s ss) = s
 
--- a type that the language has from the start, vectors aside
-abbrev pub built_in_shape : Option BuiltIn → Option Shape
-built_in_shape (Some BuiltIn.Int) = Some shape.int
-built_in_shape (Some BuiltIn.Long) = Some shape.long
-built_in_shape (Some BuiltIn.Double) = Some (shape.opaque 8)
-built_in_shape (Some BuiltIn.Str) = Some shape.str
-built_in_shape (Some BuiltIn.Bytes) = Some shape.raw
-built_in_shape (Some BuiltIn.Vector) = None
-built_in_shape (Some BuiltIn.Int128) = Some (shape.opaque 16)
-built_in_shape (Some BuiltIn.Int256) = Some (shape.opaque 32)
-built_in_shape None = None
+-- a name that means this, applied to these types
+abbrev pub named_shape : What → Shapes → Shape
+named_shape (What.Variable i) args = shape.var i
+named_shape (What.Base b) args = built_in_shape b
+named_shape (What.Vector is_boxed) args = shape.vector is_boxed (item_of args)
+named_shape (What.Type n) args = shape.boxed n args
+named_shape (What.Constructor i) args = shape.bare i args
+named_shape What.Unknown args = shape.call
 
--- likewise, by its name
-abbrev pub base_shape : List ℕ → Option Shape
-base_shape name = built_in_shape (built_in name)
-
--- what is declared under the name, boxed or bare
-abbrev pub declared_shape : List DeclText → List ℕ → Shapes → Shape
-declared_shape ds name args = if is_type_name name then shape.boxed (head_of ds name) args else shape.bare (constructor_index ds name) args
-
--- a type that the language has, or what is declared
-abbrev pub known_shape : List DeclText → List ℕ → Shapes → Option Shape → Shape
-known_shape ds name args (Some s) = s
-known_shape ds name args None = declared_shape ds name args
-
--- a name, applied to these types, where d writes it
-abbrev pub named_shape : List DeclText → DeclText → List ℕ → Shapes → Shape
-named_shape ds d name args =
-    if is_variable d name then shape.var (variable_of d name) else if bytes_eq name (codes "vector") then shape.vector false (item_of args)
-    else if bytes_eq name (codes "Vector") then shape.vector true (item_of args) else known_shape ds name args (base_shape name)
-
--- the bare form of a type
-abbrev pub bare_shape : List DeclText → List ℕ → Shapes → Shape
-bare_shape ds name args = if bytes_eq name (codes "Vector") then shape.vector false (item_of args) else shape.bare (first_of ds name) args
+-- a type after `%`: a vector without its number, and the first constructor of a type
+abbrev pub bare_form : List DeclText → Shape → Shape
+bare_form ds (shape.vector is_boxed s) = shape.vector false s
+bare_form ds (shape.boxed n args) = shape.bare (first_numbered ds n) args
+bare_form ds s = s
 
 abbrev mutual
-  -- a type, where d writes it
-  pub meaning : List DeclText → DeclText → Tree → Shape
-  meaning ds d (named name ts) = named_shape ds d name (meanings ds d ts)
-  meaning ds d (percent t) = bare_meaning ds d t
-  meaning ds d any_call = shape.call
+  -- a resolved type
+  pub meant_shape : List DeclText → MeantView → Shape
+  meant_shape ds (named what ms) = named_shape what (meant_shapes ds ms)
+  meant_shape ds (percent m) = bare_form ds (meant_shape ds m)
+  meant_shape ds any_call = shape.call
 
-  -- the same after `%`
-  pub bare_meaning : List DeclText → DeclText → Tree → Shape
-  bare_meaning ds d (named name ts) = bare_shape ds name (meanings ds d ts)
-  bare_meaning ds d (percent t) = shape.call
-  bare_meaning ds d any_call = shape.call
+  pub meant_shapes : List DeclText → MeantViews → Shapes
+  meant_shapes ds no_meants = no_shapes
+  meant_shapes ds (and_meant m ms) = shape (meant_shape ds m) (meant_shapes ds ms)
 
-  pub meanings : List DeclText → DeclText → Trees → Shapes
-  meanings ds d no_trees = no_shapes
-  meanings ds d (tree t ts) = shape (meaning ds d t) (meanings ds d ts)
+-- a type, where d writes it
+abbrev pub meaning : List DeclText → DeclText → Tree → Shape
+meaning ds d t = meant_shape ds (meant ds d t)
 
 -- ---- entries
 
-abbrev pub kind_shape : List DeclText → DeclText → KindText → Shape
-kind_shape ds d nat = shape.nat
-kind_shape ds d flag = shape.flag
-kind_shape ds d (call var) = shape.call
-kind_shape ds d (of t) = meaning ds d t
+abbrev pub kind_shape : List DeclText → MeantKindView → Shape
+kind_shape ds nat = shape.nat
+kind_shape ds flag = shape.flag
+kind_shape ds (call variable) = shape.call
+kind_shape ds (of m) = meant_shape ds m
 
 -- the index of the variable that a call's result is
-abbrev pub kind_variable : DeclText → KindText → Option ℕ
-kind_variable d nat = None
-kind_variable d flag = None
-kind_variable d (call var) = Some (variable_of d var)
-kind_variable d (of t) = None
+abbrev pub kind_variable : MeantKindView → Option ℕ
+kind_variable nat = None
+kind_variable flag = None
+kind_variable (call variable) = variable
+kind_variable (of m) = None
 
--- the index of the field with this name
-abbrev pub field_index : DeclText → List ℕ → ℕ
-field_index d name = position_or_len (λ f. bytes_eq name f.name) d.fields
+-- the index of the `#` field among so many, and the bit
+abbrev pub condition_of : ℕ → MeantCond → ℕ × ℕ
+condition_of n c = (unwrap_or c.flags n, c.bit)
 
--- the index of the `#` field, and the bit
-abbrev pub condition_of : DeclText → CondText → ℕ × ℕ
-condition_of d c = (field_index d c.flags, c.bit)
+-- a resolved field of this name, among so many
+abbrev pub meant_slot : List DeclText → ℕ → List ℕ → MeantFieldView → Slot
+meant_slot ds n name f = record { name = name; cond = option_map (condition_of n) f.cond; var = kind_variable f.kind; of = kind_shape ds f.kind }
 
 abbrev pub slot_of : List DeclText → DeclText → FieldText → Slot
-slot_of ds d f = record { name = f.name; cond = option_map (condition_of d) f.cond; var = kind_variable d f.kind; of = kind_shape ds d f.kind }
+slot_of ds d f = meant_slot ds (length d.fields) f.name (meant_field ds d f)
 
 -- the type of the line of a built-in type
 abbrev pub line_shape : List ℕ → Shape
-line_shape name = if bytes_eq name (codes "vector") then shape.vector true (shape.var 0) else unwrap_or (base_shape name) shape.call
+line_shape name = unwrap_or (option_map built_in_shape (built_in name)) shape.call
 
 abbrev pub result_shape : List DeclText → DeclText → Shape
 result_shape ds d = if d.builtin then line_shape d.name else meaning ds d d.result
 
 -- the number of the type that a declaration constructs, or the number of types
 abbrev pub head_in : List DeclText → Option (List ℕ) → ℕ
-head_in ds (Some type) = head_of ds type
-head_in ds None = length (types_of ds)
+head_in ds type = unwrap_or (head_number ds type) (length (types_of ds))
 
 -- the entry of declaration d, with this number
 abbrev pub declaration_of : List DeclText → DeclText → ℕ → Declaration

@@ -1,115 +1,57 @@
-//! What types mean where a declaration writes them.
+//! Resolved types as types of the schema.
 ghost use Rattle.std.specs.Prelude.{◌≡◌, IfOk, map};
-ghost use Rattle.std.specs.Option.{option_map};
-ghost use Rattle.tl_program.specs.Trees.{trees_of, view, views};
+ghost use Rattle.tl_names.specs.Meants.{meants_of};
+ghost use Rattle.tl_names.specs.MeantViews.{meant_view};
 ghost use Rattle.tl_schema.specs.Types.{shapes_of, vector};
 ghost use Rattle.tl_schema.specs.Seen.{shape};
-ghost use Rattle.tl_schema.specs.Meanings.{bare_meaning, bare_shape, base_shape, declared_shape, item_of, meaning, meanings, named_shape};
+ghost use Rattle.tl_schema.specs.Meanings.{bare_form, built_in_shape, item_of, meant_shape, meant_shapes, named_shape};
 
 use crate::schema::TypeRef;
 use std::alloc::{AllocError, Global};
-use tl_combinators::{BuiltIn, TypeTree};
-use tl_names::{Scope, is_type_name};
+use std::mem::replace;
+use tl_combinators::BuiltIn;
+use tl_names::{Index, Meant, What};
 
-/// A type, where a declaration writes it.
+/// A resolved type.
 #[cycle(terms)]
-pub fn type_term(alloc: Global, scope: &Scope, tree: &TypeTree) -> Result<TypeRef, AllocError>
-    ensures { IfOk result (λ t. shape t ≡ meaning scope.now.0 scope.now.1 (view tree.now)) }
+pub fn type_term(alloc: Global, index: &Index, meant: &Meant) -> Result<TypeRef, AllocError>
+    ensures { IfOk result (λ t. shape t ≡ meant_shape index.now (meant_view meant.now)) }
 {
-    match tree {
-        TypeTree::Named { name, args } => {
-            let args = type_terms(alloc, scope, args)?;
-            named_term(alloc, scope, name.as_slice(), args)
+    match meant {
+        Meant::Named { what, args } => {
+            let args = type_terms(alloc, index, args)?;
+            named_term(alloc, *what, args)
         }
-        TypeTree::Percent { tree } => bare_term(alloc, scope, tree),
-        TypeTree::AnyCall => Ok(TypeRef::Call),
-    }
-}
-
-// A type after `%`.
-#[cycle(terms)]
-fn bare_term(alloc: Global, scope: &Scope, tree: &TypeTree) -> Result<TypeRef, AllocError>
-    ensures { IfOk result (λ t. shape t ≡ bare_meaning scope.now.0 scope.now.1 (view tree.now)) }
-{
-    match tree {
-        TypeTree::Named { name, args } => {
-            let args = type_terms(alloc, scope, args)?;
-            bare_named(alloc, scope, name.as_slice(), args)
+        Meant::Percent { meant } => {
+            let term = type_term(alloc, index, meant)?;
+            Ok(bare_term(alloc, index, term))
         }
-        TypeTree::Percent { .. } => Ok(TypeRef::Call),
-        TypeTree::AnyCall => Ok(TypeRef::Call),
+        Meant::AnyCall => Ok(TypeRef::Call),
     }
 }
 
 #[cycle(terms)]
-fn type_terms(alloc: Global, scope: &Scope, trees: &[TypeTree]) -> Result<Vec<TypeRef>, AllocError>
-    ensures { IfOk result (λ ts. shapes_of (map shape ts.items) ≡ meanings scope.now.0 scope.now.1 (trees_of (views trees.now))) }
+fn type_terms(alloc: Global, index: &Index, meants: &[Meant]) -> Result<Vec<TypeRef>, AllocError>
+    ensures { IfOk result (λ ts. shapes_of (map shape ts.items) ≡ meant_shapes index.now (meants_of (map meant_view meants.now))) }
 {
     let mut terms = Vec::new(alloc);
-    for tree in trees {
-        terms.push(type_term(alloc, scope, tree)?)?;
+    for meant in meants {
+        terms.push(type_term(alloc, index, meant)?)?;
     }
     Ok(terms)
 }
 
-// A name that is applied to these types.
-fn named_term(
-    alloc: Global,
-    scope: &Scope,
-    name: &[u8],
-    args: Vec<TypeRef>,
-) -> Result<TypeRef, AllocError>
-    ensures { IfOk result (λ t. shape t ≡ named_shape scope.now.0 scope.now.1 name.now (shapes_of (map shape args.items))) }
+// A name that means this, applied to these types.
+fn named_term(alloc: Global, what: What, args: Vec<TypeRef>) -> Result<TypeRef, AllocError>
+    ensures { IfOk result (λ t. shape t ≡ named_shape what (shapes_of (map shape args.items))) }
 {
-    if scope.is_variable(name) {
-        return Ok(TypeRef::Var {
-            index: scope.variable(name),
-        });
-    }
-    if name == b"vector".as_slice() {
-        return vector_term(alloc, false, args);
-    }
-    if name == b"Vector".as_slice() {
-        return vector_term(alloc, true, args);
-    }
-    match base_term(name) {
-        Some(term) => Ok(term),
-        None => Ok(declared_term(scope, name, args)),
-    }
-}
-
-// The bare form of a type, applied to these types.
-fn bare_named(
-    alloc: Global,
-    scope: &Scope,
-    name: &[u8],
-    args: Vec<TypeRef>,
-) -> Result<TypeRef, AllocError>
-    ensures { IfOk result (λ t. shape t ≡ bare_shape scope.now.0 name.now (shapes_of (map shape args.items))) }
-{
-    if name == b"Vector".as_slice() {
-        return vector_term(alloc, false, args);
-    }
-    Ok(TypeRef::Bare {
-        entry: scope.first(name),
-        args,
-    })
-}
-
-// A declared type or constructor, applied to these types.
-fn declared_term(scope: &Scope, name: &[u8], args: Vec<TypeRef>) -> TypeRef
-    ensures { shape result ≡ declared_shape scope.now.0 name.now (shapes_of (map shape args.items)) }
-{
-    if is_type_name(name) {
-        TypeRef::Boxed {
-            head: scope.head(name),
-            args,
-        }
-    } else {
-        TypeRef::Bare {
-            entry: scope.constructor_index(name),
-            args,
-        }
+    match what {
+        What::Variable { index } => Ok(TypeRef::Var { index }),
+        What::Base { built_in } => built_in_term(alloc, built_in),
+        What::Vector { is_boxed } => vector_term(alloc, is_boxed, args),
+        What::Type { number } => Ok(TypeRef::Boxed { head: number, args }),
+        What::Constructor { index } => Ok(TypeRef::Bare { entry: index, args }),
+        What::Unknown => Ok(TypeRef::Call),
     }
 }
 
@@ -127,19 +69,38 @@ fn vector_term(alloc: Global, is_boxed: bool, args: Vec<TypeRef>) -> Result<Type
     })
 }
 
-/// A type that the language has from the start, vectors aside.
-pub fn base_term(name: &[u8]) -> Option<TypeRef>
-    ensures { option_map shape result ≡ base_shape name.now }
+// The bare form of a type.
+fn bare_term(alloc: Global, index: &Index, mut term: TypeRef) -> TypeRef
+    ensures { shape result ≡ bare_form index.now (shape term) }
 {
-    match BuiltIn::of(name) {
-        None => None,
-        Some(BuiltIn::Int) => Some(TypeRef::Int),
-        Some(BuiltIn::Long) => Some(TypeRef::Long),
-        Some(BuiltIn::Double) => Some(TypeRef::Double),
-        Some(BuiltIn::Str) => Some(TypeRef::Str),
-        Some(BuiltIn::Bytes) => Some(TypeRef::Raw),
-        Some(BuiltIn::Vector) => None,
-        Some(BuiltIn::Int128) => Some(TypeRef::Int128),
-        Some(BuiltIn::Int256) => Some(TypeRef::Int256),
+    match &mut term {
+        TypeRef::Vector { boxed, .. } => *boxed = false,
+        TypeRef::Boxed { head, args } => {
+            return TypeRef::Bare {
+                entry: index.first(*head),
+                args: replace(args, Vec::new(alloc)),
+            };
+        }
+        _ => {}
+    }
+    term
+}
+
+/// A built-in type, as its line has it: `vector` is boxed there, and of a variable.
+pub fn built_in_term(alloc: Global, built_in: BuiltIn) -> Result<TypeRef, AllocError>
+    ensures { IfOk result (λ t. shape t ≡ built_in_shape built_in) }
+{
+    match built_in {
+        BuiltIn::Int => Ok(TypeRef::Int),
+        BuiltIn::Long => Ok(TypeRef::Long),
+        BuiltIn::Double => Ok(TypeRef::Double),
+        BuiltIn::Str => Ok(TypeRef::Str),
+        BuiltIn::Bytes => Ok(TypeRef::Raw),
+        BuiltIn::Vector => Ok(TypeRef::Vector {
+            boxed: true,
+            item: Box::new(alloc, TypeRef::Var { index: 0 })?,
+        }),
+        BuiltIn::Int128 => Ok(TypeRef::Int128),
+        BuiltIn::Int256 => Ok(TypeRef::Int256),
     }
 }

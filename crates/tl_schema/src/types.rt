@@ -1,10 +1,9 @@
 //! Types by their texts.
-ghost use Rattle.std.specs.Prelude.{◌≡◌, IfOk};
+ghost use Rattle.std.specs.Prelude.{IfOk};
 ghost use Rattle.tl_program.specs.Trees.{view};
-ghost use Rattle.tl_program.specs.Program.{decl_text};
 ghost use Rattle.tl_schema.specs.Seen.{shape};
 ghost use Rattle.tl_schema.specs.Formed.{IsFormed};
-ghost use Rattle.tl_schema.specs.AskedTypes.{GivesType, IsTypeText, NamesType, RefusesType, TypeTextRefused, asker};
+ghost use Rattle.tl_schema.specs.AskedTypes.{GivesType, IsTypeText, NamesType, RefusesType, TypeTextRefused};
 ghost use Rattle.tl_schema.specs.Types.{Shape};
 ghost use Rattle.tl_schema.specs.declared.fault.TypeFault.{TypeFault};
 ghost use Rattle.tl_names.specs.inner.BareSteps.{MarksEmpty};
@@ -14,10 +13,9 @@ use crate::pass_type::pass_type;
 use crate::terms::type_term;
 use crate::{Schema, TypeFault, TypeRef};
 use std::alloc::Global;
-use tl_combinators::{Decl, TypeTree, parse_type};
+use tl_combinators::{TypeTree, parse_type};
 use tl_lexer::lex;
-use tl_names::{Index, Scope, resolve_type};
-use tl_numbers::Bytes;
+use tl_names::{Index, resolve_type};
 
 /// The type that a text names: a closed type of the schema, or `!` for a call of any of its functions.
 pub fn type_of(alloc: Global, schema: &Schema, text: &[u8]) -> Result<TypeRef, TypeFault>
@@ -41,22 +39,6 @@ fn named_type(alloc: Global, schema: &Schema, text: &[u8]) -> Result<TypeRef, Ty
     checked_type(alloc, schema.index(), schema.marks(), &tree)
 }
 
-// Who asks for a type: no declaration of the program, and one without variables.
-fn asker(alloc: Global) -> Decl
-    ensures { decl_text result ≡ asker }
-{
-    Decl {
-        name: Bytes::new(alloc),
-        number: None,
-        vars: Vec::new(alloc),
-        fields: Vec::new(alloc),
-        result: TypeTree::AnyCall,
-        function: true,
-        builtin: false,
-        text: Bytes::new(alloc),
-    }
-}
-
 // The type, where it has none of the causes that a type alone can have.
 fn checked_type(
     alloc: Global,
@@ -69,8 +51,6 @@ fn checked_type(
 {
     let meant = resolve_type(alloc, index, tree)?;
     pass_type(index, marks, &meant)?;
-    let decl = asker(alloc);
-    let scope = Scope::of(alloc, index, &decl)?;
-    let term = type_term(alloc, &scope, tree)?;
+    let term = type_term(alloc, index, &meant)?;
     Ok(term)
 }

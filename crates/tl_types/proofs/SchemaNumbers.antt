@@ -11,6 +11,7 @@ use Rattle.tl_schema.specs.Meanings.{head_in, IsNumberWhere, IsEntry, line_numbe
 use Rattle.tl_schema.specs.SameNumber.{SameNumber, earlier, packed}
 use Rattle.tl_schema.specs.CheckedPrograms.{IsSchema}
 use Rattle.tl_schema.specs.Formed.{IsMember, IsFunction, IsOwn}
+use Rattle.tl_schema.proofs.Members.{own_by_head}
 use Rattle.tl_types.proofs.Members.{NumbersTell}
 
 -- ---- which entries are of own declarations
@@ -24,11 +25,6 @@ no_line : (function built : Bool) → (function && not built) ≡ true → built
 no_line true false e = refl
 no_line true true e = absurd (true≢false (sym e))
 no_line false built e = absurd (true≢false (sym e))
-
--- the head of any other is the number of types
-constructs : (ds : List DeclText) (own : Bool) (head : Option (List ℕ)) → head_in ds (if own then head else None) < length (types_of ds) → own ≡ true
-constructs ds true head below = refl
-constructs ds false head below = absurd (omega (arith, below))
 
 line_unpacked : (name : List ℕ) → line_number name ≢ packed_number
 line_unpacked name e = by (bytes_eq name (codes "vector")) e
@@ -54,7 +50,7 @@ module _ (ds : List DeclText) (free : (k : ℕ) → SameNumber ds k → ⊥) whe
     own_of : e.head < length (types_of ds) → (d.function ≡ false) × (d.builtin ≡ false)
     own_of below =
         let head : e.head ≡ head_in ds (own_type d) = ap (λ (x : Declaration). x.head) entry.1 in
-        own_constructor d.function d.builtin (constructs ds (is_constructor d) (result_head d) (omega (arith, below, head)))
+        own_constructor d.function d.builtin (own_by_head ds (is_constructor d) (result_head d) (omega (arith, below, head)))
 
     constructor_entry : e.head < length (types_of ds) → e.function ≡ false
     constructor_entry below = ap (λ (x : Declaration). x.function) entry.1 ∙ ap (λ (b : Bool). b && not d.builtin) (own_of below).0

@@ -1,15 +1,12 @@
 -- The roots of a profile's plan are types with values.
 use Rattle.std.proofs.Common.{◌≡◌, ℕ, zero, suc, ◌<◌, List, [], ◌∷◌, length, Some, Ok, Err, refl, sym, ap, ◌∙◌, subst, inl, inr, arith}
 use Rattle.std.specs.Prelude.{slice_get, IsTrue}
-use Rattle.tl_program.specs.Trees.{Tree}
-use Rattle.tl_names.specs.Parts.{IsPart}
 use Rattle.tl_names.specs.Indexes.{types_of}
 use Rattle.tl_schema.specs.Types.{Shape, boxed, no_shapes}
 use Rattle.tl_schema.specs.Schemas.{Declared}
 use Rattle.tl_schema.specs.CheckedPrograms.{IsSchema}
 use Rattle.tl_schema.specs.AskedTypes.{asker, type_causes, IsTypeText, PassesTypeBy}
 use Rattle.tl_schema.specs.Formed.{IsFormed}
-use Rattle.tl_schema.proofs.FormedTypes.{IsFine, type_formed}
 use Rattle.tl_plan.specs.Plans.{AreFormed, PlanView, Plans, answer}
 use Rattle.tl_plan.specs.declared.fault.PlanFault.{PlanFault}
 use Rattle.tl_plan.specs.declared.fault.PlanFault.TheVariants.{Memory, TooManyInstances, TypeTooDeep}
@@ -22,20 +19,7 @@ use Rattle.wire_profile.specs.Profiles.{IsHead, AreHeads, IsProfile, root_shapes
 use Rattle.wire_profile.proofs.FormTable.{member_form, some_is}
 use Rattle.wire_profile.proofs.PlanLimits.{has_plan}
 use Rattle.wire_profile.proofs.ProfileFacts.{is_member}
-use Rattle.tl_schema.proofs.AskedFormed.{no_variable}
-
-module _ (schema : Declared) (good : IsSchema schema) where
-  asked_part : (t : Tree) → PassesTypeBy schema.program type_causes t → (u : Tree) → IsPart u t → IsFine schema.program asker 0 u
-  asked_part t passes u inside = record {
-    known = λ h. passes.0 (u, inside, h);
-    applied = λ h. passes.1.0 (u, inside, h);
-    bare = λ h. passes.1.1.0 (u, inside, h);
-    full = λ h. passes.1.1.1.0 (u, inside, h);
-    below = no_variable u;
-  }
-
-  text_formed : (text : List ℕ) (T : Shape) → IsTypeText schema.program text T → IsFormed schema T
-  text_formed text T is = subst (IsFormed schema) (sym is.means) (type_formed schema good asker 0 is.t (asked_part is.t is.passes))
+use Rattle.tl_schema.proofs.AskedFormed.{text_formed}
 
 head_at : (S : Declared) (names : List (List ℕ)) (hs : List ℕ) → AreHeads S names hs → (h : ℕ) (name : List ℕ) → slice_get names h ≡ Some name → IsHead S name (number_at hs h)
 head_at S [] hs all h name at = absurd cc

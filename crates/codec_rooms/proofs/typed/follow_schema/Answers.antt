@@ -1,5 +1,5 @@
 use Rattle.tl_schema.specs.Seen.{shape}
-use Rattle.schema_files.proofs.FormedWords.{word_formed}
+use Rattle.tl_schema.proofs.AskedFormed.{text_formed}
 use Rattle.codec_rooms.specs.inner.Purposes.{of_type}
 use Rattle.codec_rooms.proofs.Following.{can_type}
 use Rattle.codec_rooms.proofs.Typing.{asked_meant, asked_refused}
@@ -12,5 +12,5 @@ pub returns-in-Err : goal.returns-in-Err
 returns-in-Err g c =
     let S = c.args.schema.now in
     let word = c.args.of.now in
-    asked_refused (of_type c.args.purpose c.args.input.now) S word (λ s is. can_type c.args.purpose c.args.input.now S c.requires s (word_formed S c.requires word s is)) c.in-Err.fault _ _ _
+    asked_refused (of_type c.args.purpose c.args.input.now) S word (λ s is. can_type c.args.purpose c.args.input.now S c.requires s (text_formed S c.requires word s is)) c.in-Err.fault _ _ _
     c.in-Err.ensures.names c.print_made.ensures
