@@ -2,11 +2,12 @@
 use Rattle.std.proofs.Common.{◌≡◌, ◌≢◌, ◌⊎◌, inl, inr, ℕ, zero, suc, ◌+◌, ◌<◌, ◌≤◌, List, [], ◌∷◌, set, take, length, position, replicate, get_or, slice_get, Option, Some, None, unwrap_or, is_some, not, true≢false, Bool, true, false, ◌==◌, if◌then◌else◌, refl, ap, sym, ◌∙◌, arith, eqb-true, eq-eqb}
 use Rattle.std.proofs.lemmas.Bool.{cases_eq, cases_order, ne_eqb}
 use Rattle.std.proofs.lemmas.List.{get_or_past, take_all, length-take}
-use Rattle.std.proofs.lemmas.Option.{same_Some}
-use Rattle.std.proofs.lemmas.List.Sums.{prefix_len-le-length}
+use Rattle.std.proofs.lemmas.Option.{same_Some, slice_get_within}
+use Rattle.std.specs.Prelude.{bytes_eq}
 use Rattle.tl_graph.specs.Firsts.{First}
 use Rattle.tl_names.specs.Writing.{own_type}
 use Rattle.tl_names.specs.Indexes.{types_of}
+use Rattle.tl_names.specs.What.{type_named}
 use Rattle.tl_names.proofs.Maps.{take_push}
 use Rattle.tl_names.proofs.Indexes.{HoldsAt}
 use Rattle.tl_names.proofs.Positions.{first_position, position_push}
@@ -87,7 +88,11 @@ module _ (S : Declared) (n : ℕ) (firsts : List (Option ℕ)) (so_far : FirstsS
 module _ (S : Declared) (good : IsSchema S) where
   low_by : (o : Option (List ℕ)) → head_in S.program o ≤ type_total S
   low_by None = omega arith
-  low_by (Some type) = prefix_len-le-length _ (types_of S.program)
+  low_by (Some type) = by (type_named S.program type) (first_position (bytes_eq type) (λ x. bytes_eq type x ≡ true) (λ x. (λ t. t, λ e. e)) (types_of S.program))
+    where
+      by : (o : Option ℕ) → First (HoldsAt (λ (x : List ℕ). bytes_eq type x ≡ true) (types_of S.program)) o → unwrap_or o (type_total S) ≤ type_total S
+      by None first = omega arith
+      by (Some k) first = let within = slice_get_within (types_of S.program) k first.0.x first.0.there in omega (arith, within)
 
   -- no declaration has a higher number than the number of types
   head_low : (i : ℕ) (d : Declaration) → slice_get S.decls i ≡ Some d → d.head ≤ type_total S

@@ -38,7 +38,7 @@ mod MarkedArguments
 mod MeantEntries
 mod NumberTests
 mod NumberedIndexes
-mod MeantTypes
+pub mod MeantTypes
 mod DeclaredEntries
 mod EmptyArguments
 pub mod OneSchema

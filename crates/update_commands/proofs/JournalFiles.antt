@@ -1,21 +1,11 @@
 -- What is looked at of a journal, where it is read to one byte past the limit.
-use Rattle.std.proofs.Common.{◌≡◌, ℕ, ◌<◌, List, ◌++◌, length, length-append, Ok, Err, sym, ap, ◌∙◌, arith, lt-ltb}
-use Rattle.std.proofs.lemmas.List.{take-append-le}
+use Rattle.std.proofs.Common.{ℕ, List, Ok, Err, sym, ap, ◌∙◌}
 use Rattle.tl_base.specs.declared.host.Slot.TheVariants.{Input}
 use Rattle.outside.proofs.Loaded.{StaysLong, refuses_as}
 use Rattle.update_replay.specs.Replays.{goes_on, seen_of}
 use Rattle.update_replay.specs.declared.limits.TheConstants.{MAX_JOURNAL_BYTES}
+use Rattle.update_replay.proofs.Windows.{goes_alike, seen_alike}
 use Rattle.update_commands.specs.Replaying.{IsSeen, NoLine}
-
--- ---- what is looked at
-
-seen_alike : (front rest : List ℕ) → MAX_JOURNAL_BYTES < length front → seen_of front ≡ seen_of (front ++ rest)
-unfolding seen_of
-seen_alike front rest long = sym (take-append-le MAX_JOURNAL_BYTES front rest (omega (arith, long)))
-
-goes_alike : (front rest : List ℕ) → MAX_JOURNAL_BYTES < length front → goes_on front ≡ goes_on (front ++ rest)
-unfolding goes_on
-goes_alike front rest long = lt-ltb MAX_JOURNAL_BYTES (length front) long ∙ sym (lt-ltb MAX_JOURNAL_BYTES (length (front ++ rest)) (omega (arith, long, length-append front rest)))
 
 pub stays_long : (name : List ℕ) → StaysLong Input name MAX_JOURNAL_BYTES IsSeen NoLine
 stays_long name bytes read rest (Ok x) e long h =

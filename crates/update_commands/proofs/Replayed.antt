@@ -9,6 +9,7 @@ use Rattle.tl_schema.specs.Schemas.{Declared}
 use Rattle.wire_profile.specs.Indexes.{ProfileView}
 use Rattle.wire_profile.specs.Profiles.{IsProfile}
 use Rattle.box_events.specs.declared.steps.Step.{Step}
+use Rattle.update_world.specs.Shown.{Shown}
 use Rattle.outside.specs.Answer.{Answer, done, refused_after, read_fault_line, write_fault_line}
 use Rattle.outside.specs.declared.status.Status.{Status}
 use Rattle.outside.specs.declared.status.Status.TheVariants.{ReadFault, WriteFault}
@@ -92,47 +93,38 @@ can_replay_by journal n p =
 pub can_replay : (journal : List ℕ) (n : ℕ) (schema : Declared) → IsSchema schema → Begins (OfProfile (replays_by journal n) schema) []
 can_replay journal n schema good = can_profile (replays_by journal n) schema good (λ p is. can_replay_by journal n p)
 
--- ---- a replay that was just begun
-
-module _ (p : ProfileView) (n : ℕ) (journal : List ℕ) (r : Replay) (h : HasMade p n journal [] [] r) where
-  pub of_new : (P : ProfileView → ℕ → List ℕ → Type 0) → P r.world.profile (length r.world.clients) r.journal → P p n journal
-  of_new P x = subst (λ (j : List ℕ). P p n j) h.all (subst (λ (k : ℕ). P p k r.journal) (h.stands).clients (subst (λ (q : ProfileView). P q (length r.world.clients) r.journal) (h.stands).profile x))
-
-  pub to_new : (P : ProfileView → ℕ → List ℕ → Type 0) → P p n journal → P r.world.profile (length r.world.clients) r.journal
-  to_new P x = subst (λ (q : ProfileView). P q (length r.world.clients) r.journal) (sym (h.stands).profile) (subst (λ (k : ℕ). P p k r.journal) (sym (h.stands).clients) (subst (λ (j : List ℕ). P p n j) (sym h.all) x))
-
 -- ---- between two steps
 
 -- some steps were made, and their lines written
-pub record Writing (p : ProfileView) (n : ℕ) (journal : List ℕ) (r : Replay) (x y : HostState) : Type 0 where
+pub record Writing (p : ProfileView) (n : ℕ) (journal : List ℕ) (u : Shown) (r : Replay) (x y : HostState) : Type 0 where
   pub steps : List Step
   pub output : List ℕ
-  pub made : HasMade p n journal steps output r
+  pub made : HasMade p n journal steps output u r
   pub wrote : HasPut output x y
 
 module _ (p : ProfileView) (n : ℕ) (journal : List ℕ) where
-  pub writes_none : (r : Replay) (x : HostState) → HasMade p n journal [] [] r → Writing p n journal r x x
-  writes_none r x h = record { steps = []; output = []; made = h; wrote = started (put Output) x }
+  pub writes_none : (u : Shown) (r : Replay) (x : HostState) → HasMade p n journal [] [] u r → Writing p n journal u r x x
+  writes_none u r x h = record { steps = []; output = []; made = h; wrote = started (put Output) x }
 
-  module _ (r : Replay) (x y : HostState) (w : Writing p n journal r x y) where
-    pub goes : IsGoing r
+  module _ (u : Shown) (r : Replay) (x y : HostState) (w : Writing p n journal u r x y) where
+    pub goes : IsGoing u r
     goes = (p, n, journal, w.steps, w.output, w.made)
 
-    pub writes_more : (new : Replay) (z : HostState) (lines : List ℕ) → HandsOut p n journal w.steps w.output new (Ok true) → lines ≡ new.lines.items → Did (Writes Output lines) y z (Some true) → Writing p n journal new x z
-    writes_more new z lines (s, made) is h = record {
+    pub writes_more : (v : Shown) (new : Replay) (z : HostState) (lines : List ℕ) → HandsOut p n journal w.steps r.rest.now w.output v new (Ok true) → lines ≡ new.lines.items → Did (Writes Output lines) y z (Some true) → Writing p n journal v new x z
+    writes_more v new z lines (s, made, comes) is h = record {
       steps = w.steps ++ s ∷ [];
       output = w.output ++ new.lines.items;
       made = made;
       wrote = subst (λ (l : List ℕ). HasPut (w.output ++ l) x z) is (put_more x y w.output w.wrote z lines h);
     }
 
-    pub fewer : (new : Replay) → HandsOut p n journal w.steps w.output new (Ok true) → MAX_STEPS - new.steps < MAX_STEPS - r.steps
-    fewer new (s, made) =
-        let most = few_made p n (seen_of journal) (w.steps ++ s ∷ []) new.at made.left (w.output ++ new.lines.items) made.began in
+    pub fewer : (v : Shown) (new : Replay) → HandsOut p n journal w.steps r.rest.now w.output v new (Ok true) → MAX_STEPS - new.steps < MAX_STEPS - r.steps
+    fewer v new (s, made, comes) =
+        let most = few_made p n (seen_of journal) (w.steps ++ s ∷ []) new.at new.rest.now (w.output ++ new.lines.items) made.began in
         omega (arith, most, made.number, (w.made).number, length-append w.steps (s ∷ []))
 
-    pub ends : (new : Replay) (z : HostState) (lines : List ℕ) (status : Status) → HandsOut p n journal w.steps w.output new (Ok false) → lines ≡ new.lines.items → Did (Prints (done lines)) y z (Some status) → DidIn to_output (Answers (OfJournal p n journal)) x z (Some status)
-    ends new z lines status replayed is h =
+    pub ends : (v : Shown) (new : Replay) (z : HostState) (lines : List ℕ) (status : Status) → HandsOut p n journal w.steps r.rest.now w.output v new (Ok false) → lines ≡ new.lines.items → Did (Prints (done lines)) y z (Some status) → DidIn to_output (Answers (OfJournal p n journal)) x z (Some status)
+    ends v new z lines status (made, replayed, comes) is h =
         answers_by (OfJournal p n journal) (done (w.output ++ lines)) x z (Some status) (record { steps = w.steps; output = w.output ++ lines; ending = whole (length w.steps); replayed = subst (λ (l : List ℕ). Replayed p n journal w.steps (w.output ++ l) (whole (length w.steps))) (sym is) replayed; answered = refl })
         (rest_printed x y w.output w.wrote z lines status h)
 
@@ -140,31 +132,31 @@ module _ (p : ProfileView) (n : ℕ) (journal : List ℕ) where
 
 module _ (p : ProfileView) (good : IsProfile p) (n : ℕ) (journal : List ℕ) (are : AreBytes (seen_of journal)) where
   -- the journal's answer begins with what was handed out
-  begins_answer : (ss : List Step) (output : List ℕ) (r : Replay) → HasMade p n journal ss output r → (a : Answer) × OfJournal p n journal a × (more : List ℕ) × (output ++ more ≡ a.output)
-  begins_answer ss output r h =
+  begins_answer : (ss : List Step) (output : List ℕ) (u : Shown) (r : Replay) → HasMade p n journal ss output u r → (a : Answer) × OfJournal p n journal a × (more : List ℕ) × (output ++ more ≡ a.output)
+  begins_answer ss output u r h =
       let all = each_journal p n journal good are in
       let told = answered p n journal all.0 all.1 all.2 all.3 in
-      let stopped : Stopped p n (seen_of journal) (goes_on journal) output = record { steps = ss; at = r.at; left = h.left; lines = output; next = []; prefix = []; rest = []; began = h.began; comes = nothing; split = refl; written = sym (append-nil output) } in
+      let stopped : Stopped p n (seen_of journal) (goes_on journal) output = record { steps = ss; at = r.at; left = r.rest.now; lines = output; next = []; prefix = []; rest = []; began = h.began; comes = nothing; split = refl; written = sym (append-nil output) } in
       let first = stopped_first p good n (seen_of journal) are (goes_on journal) all.0 all.1 all.2 all.3 output stopped in
       (told.0, told.1, first.0, first.1 ∙ sym told.2)
 
-  module _ (r : Replay) (x y : HostState) (w : Writing p n journal r x y) where
+  module _ (u : Shown) (r : Replay) (x y : HostState) (w : Writing p n journal u r x y) where
     -- a write of a step's lines failed
-    pub write_failed : (new : Replay) (z v : HostState) (lines : List ℕ) (status : Status) → HandsOut p n journal w.steps w.output new (Ok true) → lines ≡ new.lines.items → Did (Writes Output lines) y z (Some false) → Did (Tells write_fault_line WriteFault) z v (Some status) → DidIn to_output (Answers (OfJournal p n journal)) x v (Some status)
-    write_failed new z v lines status (s, made) is h told =
-        let a = begins_answer (w.steps ++ s ∷ []) (w.output ++ new.lines.items) new made in
-        answers_by (OfJournal p n journal) a.0 x v (Some status) a.1 (fault_printed x y w.output w.wrote a.0 z v lines a.2 status (ap (λ (l : List ℕ). (w.output ++ l) ++ a.2) is ∙ a.3) h told)
+    pub write_failed : (v : Shown) (new : Replay) (z t : HostState) (lines : List ℕ) (status : Status) → HandsOut p n journal w.steps r.rest.now w.output v new (Ok true) → lines ≡ new.lines.items → Did (Writes Output lines) y z (Some false) → Did (Tells write_fault_line WriteFault) z t (Some status) → DidIn to_output (Answers (OfJournal p n journal)) x t (Some status)
+    write_failed v new z t lines status (s, made, comes) is h told =
+        let a = begins_answer (w.steps ++ s ∷ []) (w.output ++ new.lines.items) v new made in
+        answers_by (OfJournal p n journal) a.0 x t (Some status) a.1 (fault_printed x y w.output w.wrote a.0 z t lines a.2 status (ap (λ (l : List ℕ). (w.output ++ l) ++ a.2) is ∙ a.3) h told)
 
     -- the refusal's answer
-    refusal_answer : (new : Replay) (f : ReplayFault) (line : List ℕ) → HandsOut p n journal w.steps w.output new (Err f) → stop_line f ≡ Some line → OfJournal p n journal (refused_after w.output line)
-    refusal_answer new f line (none_put, inl is) tells = absurd (none_line line (sym (ap stop_line is) ∙ tells))
-    refusal_answer new f line (none_put, inr (ending, replayed, is)) tells = record { steps = w.steps; output = w.output; ending = ending; replayed = replayed; answered = fault_told w.output ending f line (sym is) tells }
+    refusal_answer : (v : Shown) (new : Replay) (f : ReplayFault) (line : List ℕ) → HandsOut p n journal w.steps r.rest.now w.output v new (Err f) → stop_line f ≡ Some line → OfJournal p n journal (refused_after w.output line)
+    refusal_answer v new f line (none_put, inl is) tells = absurd (none_line line (sym (ap stop_line is) ∙ tells))
+    refusal_answer v new f line (none_put, inr (ending, replayed, is, stands)) tells = record { steps = w.steps; output = w.output; ending = ending; replayed = replayed; answered = fault_told w.output ending f line (sym is) tells }
 
     -- it stopped, which was told, or for which there was no memory
-    pub stops : (new : Replay) (z : HostState) (f : ReplayFault) (answer : Option Status) → HandsOut p n journal w.steps w.output new (Err f) → TellsStop f y z answer → DidIn to_output (Answers (OfJournal p n journal)) x z answer
-    stops new z f (Some status) handed (line, tells, h) = answers_by (OfJournal p n journal) (refused_after w.output line) x z (Some status) (refusal_answer new f line handed tells) (refusal_printed x y w.output w.wrote z line status h)
-    stops new z f None handed same =
-        let a = begins_answer w.steps w.output r w.made in
+    pub stops : (v : Shown) (new : Replay) (z : HostState) (f : ReplayFault) (answer : Option Status) → HandsOut p n journal w.steps r.rest.now w.output v new (Err f) → TellsStop f y z answer → DidIn to_output (Answers (OfJournal p n journal)) x z answer
+    stops v new z f (Some status) handed (line, tells, h) = answers_by (OfJournal p n journal) (refused_after w.output line) x z (Some status) (refusal_answer v new f line handed tells) (refusal_printed x y w.output w.wrote z line status h)
+    stops v new z f None handed same =
+        let a = begins_answer w.steps w.output u r w.made in
         subst (λ (s : HostState). DidIn to_output (Answers (OfJournal p n journal)) x s None) (sym same) (answers_by (OfJournal p n journal) a.0 x y None a.1 (part_printed x y w.output w.wrote a.0 a.2 a.3))
 
   -- there was no memory to begin

@@ -1,5 +1,5 @@
 //! `replay`: a schema's file is read, and of a schema with the protocol a journal's, whose steps are made and their lines written as they are.
-ghost use Rattle.std.specs.Prelude.{◌≡◌, ◌≤◌, [], IfOk, Some, codes, length};
+ghost use Rattle.std.specs.Prelude.{◌≡◌, ◌≤◌, IfOk, Some, codes, length};
 ghost use Rattle.tl_numbers.specs.Bytes.{AreBytes};
 ghost use Rattle.tl_schema.specs.CheckedPrograms.{IsSchema};
 ghost use Rattle.wire_profile.specs.Profiles.{IsProfile};
@@ -9,8 +9,7 @@ ghost use Rattle.outside.specs.Runs.{RanIn, answered};
 ghost use Rattle.codec_rooms.specs.Typed.{OfText};
 ghost use Rattle.update_commands.specs.Replay.{OfJournal};
 ghost use Rattle.update_commands.specs.Replaying.{stop_line};
-ghost use Rattle.update_replay.specs.Handing.{HasMade};
-ghost use Rattle.update_replay.specs.Replays.{seen_of};
+ghost use Rattle.update_replay.specs.Replays.{IsNew, seen_of};
 ghost use Rattle.update_commands.specs.Profile.{OfProfile};
 ghost use Rattle.update_commands.specs.ReplayWork.{replays, replays_by};
 ghost use Rattle.update_commands.specs.inner.Stops.{TellsStop};
@@ -20,9 +19,10 @@ use fault_lines::{profile_of, step_line};
 use outside::{Host, Status, finish, placed_line, print, print_made, read_file, tell, write_out};
 use schema_files::{SCHEMA_BYTES, schema_of};
 use std::alloc::{AllocError, Global};
-use tl_base::{Bytes, Out, Slot};
+use tl_base::{Out, Slot};
 use tl_schema::Schema;
 use update_replay::{MAX_JOURNAL_BYTES, Replay, ReplayFault};
+use update_world::World;
 use wire_profile::Profile;
 
 // The line of why a replay stopped at its journal.
@@ -46,19 +46,21 @@ fn tell_stop<H: Host>(alloc: Global, host: &mut H, fault: ReplayFault) -> Result
     Ok(tell(host, &line, Status::Refused))
 }
 
-// Makes the steps of a journal, and writes the lines of each when it is made.
+// Makes the steps of a journal in a new world, and writes the lines of each when it is made.
 fn write_replay<H: Host>(
     alloc: Global,
     host: &mut H,
-    replay: &mut Replay<'_>,
+    world: &mut World,
+    journal: &[u8],
 ) -> Result<Status, AllocError>
-    requires new { HasMade replay.old.world.profile (length replay.old.world.clients) replay.old.journal [] [] replay.old }
-    requires sound { IsProfile replay.old.world.profile }
-    requires bytes { AreBytes (seen_of replay.old.journal) }
-    ensures { DidIn to_output (Answers (OfJournal replay.old.world.profile (length replay.old.world.clients) replay.old.journal)) (H.state host.old) (H.state host.new) (answered result) }
+    requires new { IsNew world.old }
+    requires sound { IsProfile world.old.profile }
+    requires bytes { AreBytes (seen_of journal.now) }
+    ensures { DidIn to_output (Answers (OfJournal world.old.profile (length world.old.clients) journal.now)) (H.state host.old) (H.state host.new) (answered result) }
 {
+    let mut replay = Replay::new(alloc, journal);
     'steps: loop {
-        let more = match replay.next(alloc) {
+        let more = match replay.next(alloc, world) {
             Ok(more) => more,
             Err(fault) => return tell_stop(alloc, host, fault),
         };
@@ -77,17 +79,17 @@ fn replay_text<H: Host>(
     alloc: Global,
     host: &mut H,
     profile: Profile,
-    text: Vec<u8>,
+    text: &[u8],
     clients: u32,
 ) -> Result<Status, AllocError>
     requires some { 1 ≤ clients }
     requires few { clients ≤ 16 }
     requires sound { IsProfile profile }
-    requires bytes { AreBytes text.items }
-    ensures { DidIn to_output (Answers (OfJournal profile.entry clients text.items)) (H.state host.old) (H.state host.new) (answered result) }
+    requires bytes { AreBytes text.now }
+    ensures { DidIn to_output (Answers (OfJournal profile.entry clients text.now)) (H.state host.old) (H.state host.new) (answered result) }
 {
-    let mut replay = Replay::new(alloc, profile, clients, Bytes::from_vec(text))?;
-    write_replay(alloc, host, &mut replay)
+    let mut world = World::new(alloc, profile, clients)?;
+    write_replay(alloc, host, &mut world, text)
 }
 
 // What follows of a profile.
@@ -104,7 +106,7 @@ fn replay_file<H: Host>(
     ensures { DidIn to_output (replays_by journal.now clients profile.entry) (H.state host.old) (H.state host.new) (answered result) }
 {
     match read_file(alloc, host, Slot::Input, journal, MAX_JOURNAL_BYTES)? {
-        Some(text) => replay_text(alloc, host, profile, text, clients),
+        Some(text) => replay_text(alloc, host, profile, &text, clients),
         None => Ok(tell(host, b"tlbox: read fault\n", Status::ReadFault)),
     }
 }

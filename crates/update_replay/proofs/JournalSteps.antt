@@ -1,6 +1,7 @@
 -- What bytes begin with: one step, or none for one cause.
 use Rattle.std.proofs.Common.{◌≡◌, ◌⊎◌, inl, inr, ℕ, ◌≤◌, List, [], ◌++◌, length, length-append, Option, Some, None, refl, sym, ap, ◌∙◌, arith}
 use Rattle.std.proofs.lemmas.List.{append_cancel_left}
+use Rattle.std.proofs.lemmas.Option.{none-some, same_Some}
 use Rattle.tl_numbers.specs.Bytes.{AreBytes}
 use Rattle.tl_types.specs.Values.{ValueView}
 use Rattle.tl_types.specs.Exactly.{BeginsWith, ExactlyOne}
@@ -23,12 +24,6 @@ use Rattle.box_wire.specs.Framing.{SpellsWhole}
 use Rattle.box_wire.specs.StepReading.{StepRefused, no_value, no_message}
 use Rattle.box_wire.proofs.StepLaws.{step_formed}
 use Rattle.update_replay.specs.Replays.{BeginsStep}
-
-none_some : {A : Type 0} (x : A) → None ≡ Some x → ⊥
-none_some x e = cc
-
-some_is : {A : Type 0} (x y : A) → Some x ≡ Some y → x ≡ y
-some_is x y e = cc
 
 refused_as : (p q : ℕ) (c d : Cause) → p ≡ q → c ≡ d → wire.Refused p c ≡ wire.Refused q d
 refused_as p q c d e f = cc
@@ -67,7 +62,7 @@ module _ (p : ProfileView) (good : IsProfile p) (bytes : List ℕ) (are : AreByt
 
   pub no_both : (s : Step) (x rest : List ℕ) (e : WireFault) → BeginsStep p bytes s x rest → StepRefused p bytes e → ⊥
   no_both s x rest e b (no_value offset cause r at) = one.never_both (b.means).v x offset cause (begins (b.means).v x rest (b.means).spelled b.parts) r
-  no_both s x rest e b (no_message w y more r at c) = none_some e (cause_as (b.means).v w x y rest more None (Some e) (b.means).spelled b.parts r at (b.means).clear c)
+  no_both s x rest e b (no_message w y more r at c) = none-some e (cause_as (b.means).v w x y rest more None (Some e) (b.means).spelled b.parts r at (b.means).clear c)
 
   pub one_refusal : (e f : WireFault) → StepRefused p bytes e → StepRefused p bytes f → e ≡ f
   one_refusal e f (no_value i a r is) (no_value j b s at) =
@@ -75,7 +70,7 @@ module _ (p : ProfileView) (good : IsProfile p) (bytes : List ℕ) (are : AreByt
       is ∙ refused_as _ _ a b (ap (moved 0) same.0) same.1 ∙ sym at
   one_refusal e f (no_value i a r is) (no_message w y more s at c) = absurd (one.never_both w y i a (begins w y more s at) r)
   one_refusal e f (no_message w y more s at c) (no_value i a r is) = absurd (one.never_both w y i a (begins w y more s at) r)
-  one_refusal e f (no_message v x rest s is c) (no_message w y more r at d) = some_is e f (cause_as v w x y rest more (Some e) (Some f) s is r at c d)
+  one_refusal e f (no_message v x rest s is c) (no_message w y more r at d) = same_Some e f (cause_as v w x y rest more (Some e) (Some f) s is r at c d)
 
   -- a value that bytes begin with is a step's, or has a cause
   of_value : (v : ValueView) (x rest : List ℕ) → SpellsWhole p steps v x → bytes ≡ x ++ rest → (o : Option WireFault) → steps.cause (owned p v) ≡ o

@@ -23,12 +23,10 @@ pub mod OneReplay
 pub mod ReplayPrefixes
 pub mod Windows
 pub mod Replaying
+pub mod NewWorlds
 pub mod StepsMade
 pub mod ReplayRooms
 pub mod EachReplay
 pub mod ReplayLaws
-pub mod WindowSteps
-pub mod NextSteps
 pub mod Writes
-pub mod ReplayEnds
 pub mod Handed

@@ -1,6 +1,7 @@
 -- A journal has one replay at most.
-use Rattle.std.proofs.Common.{◌≡◌, inl, inr, ℕ, ◌+◌, ◌<◌, ◌≤◌, List, [], ◌∷◌, ◌++◌, append_assoc, append-nil, length, length-append, Bool, true, false, Some, None, refl, sym, ap, ◌∙◌, subst, arith}
+use Rattle.std.proofs.Common.{◌≡◌, inl, inr, ℕ, ◌+◌, ◌<◌, ◌≤◌, List, [], ◌∷◌, ◌++◌, append_assoc, append-nil, length, length-append, Bool, true, false, Some, refl, sym, ap, ◌∙◌, subst, arith}
 use Rattle.std.proofs.lemmas.Bool.{cases_lt}
+use Rattle.std.proofs.lemmas.Option.{none-some, same_Some}
 use Rattle.std.specs.Prelude.{IsTrue}
 use Rattle.tl_numbers.specs.Bytes.{AreBytes}
 use Rattle.tl_types.proofs.Numbers.{bytes_after}
@@ -19,12 +20,6 @@ use Rattle.update_replay.specs.Replays.{BeginsStep, StepFollows, Began, none, on
 use Rattle.update_replay.specs.declared.limits.TheConstants.{MAX_STEPS}
 use Rattle.update_replay.proofs.JournalSteps.{none_begins, steps_once, no_both, one_refusal}
 use Rattle.update_replay.proofs.SpelledOnce.{lines_once}
-
-none_some : {A : Type 0} (x : A) → None ≡ Some x → ⊥
-none_some x e = cc
-
-some_is : {A : Type 0} (x y : A) → Some x ≡ Some y → x ≡ y
-some_is x y e = cc
 
 apart : (b : Bool) → b ≡ false → IsTrue b → ⊥
 apart true e t = cc
@@ -157,7 +152,7 @@ module _ (p : ProfileView) (good : IsProfile p) (n : ℕ) (seen : List ℕ) (are
   not_that : (ss : List Step) (left : List ℕ) → AreBytes left → (s : Step) (x rest : List ℕ) (cause : StepCause) → BeginsStep p left s x rest → refusal packet_size (run n ss) s ≡ Some cause → Goes p n ss left → ⊥
   not_that ss left bytes s x rest cause b is g =
       let same = steps_once p good left bytes s g.step x g.x rest g.rest b (g.follows).begins in
-      none_some cause (sym (g.follows).possible ∙ ap (refusal packet_size (run n ss)) (sym same.0) ∙ is)
+      none-some cause (sym (g.follows).possible ∙ ap (refusal packet_size (run n ss)) (sym same.0) ∙ is)
 
   pub stuck : (more : Bool) (ss : List Step) (at : ℕ) (left lines output : List ℕ) (ending : Ending) → AreBytes left → Stop p n more ss at left lines output ending → Goes p n ss left → ⊥
   stuck more ss at left lines output ending bytes (by_bytes fault h told e) g = no_both p good left bytes g.step g.x g.rest fault (g.follows).begins h.0
@@ -167,7 +162,7 @@ module _ (p : ProfileView) (good : IsProfile p) (n : ℕ) (seen : List ℕ) (are
 
   same_cause : (left : List ℕ) → AreBytes left → (w : List Step) (s t : Step) (x y rest after : List ℕ) (a b : StepCause) → BeginsStep p left s x rest → BeginsStep p left t y after → refusal packet_size (run n w) s ≡ Some a → refusal packet_size (run n w) t ≡ Some b → a ≡ b
   same_cause left bytes w s t x y rest after a b c d is at =
-      some_is a b (sym is ∙ ap (refusal packet_size (run n w)) (steps_once p good left bytes s t x y rest after c d).0 ∙ at)
+      same_Some a b (sym is ∙ ap (refusal packet_size (run n w)) (steps_once p good left bytes s t x y rest after c d).0 ∙ at)
 
   stops_once : (more : Bool) (ss : List Step) (at : ℕ) (left lines output other : List ℕ) (e f : Ending) → AreBytes left → Stop p n more ss at left lines output e → Stop p n more ss at left lines other f → (output ≡ other) × (e ≡ f)
   stops_once more ss at left lines output other e f bytes (by_bytes u h told is) (by_bytes v i said at_f) = (told ∙ sym said, is ∙ ap (of_refusal more at) (one_refusal p good left bytes u v h.0 i.0) ∙ sym at_f)

@@ -1,13 +1,11 @@
 -- The laws of replays.
-use Rattle.std.proofs.Common.{◌≡◌, ℕ, ◌<◌, List, ◌++◌, length, length-append, Bool, sym, ◌∙◌, subst, arith, lt-ltb}
-use Rattle.std.proofs.lemmas.List.{take-append-le}
+use Rattle.std.proofs.Common.{ℕ, List, ◌++◌, Bool, sym, subst}
 use Rattle.update_replay.specs.ReplayLaws.{EachJournalIsReplayed, LongJournalsAreAlike, ReplaysAreOne, StoppedArePrefixes}
 use Rattle.update_replay.specs.Replays.{Replays, goes_on, seen_of}
-use Rattle.update_replay.specs.declared.limits.TheConstants.{MAX_JOURNAL_BYTES}
 use Rattle.update_replay.proofs.EachReplay.{each_replayed}
 use Rattle.update_replay.proofs.OneReplay.{replays_once}
 use Rattle.update_replay.proofs.ReplayPrefixes.{stopped_first}
-use Rattle.update_replay.proofs.Windows.{seen_bytes}
+use Rattle.update_replay.proofs.Windows.{goes_alike, seen_alike, seen_bytes}
 
 pub replays_are_one : ReplaysAreOne
 replays_are_one p good n journal are ss others output other e f h g = replays_once p good n (seen_of journal) (seen_bytes journal are) (goes_on journal) ss others output other e f h g
@@ -17,14 +15,6 @@ each_journal_is_replayed p good n journal are = each_replayed p good n (seen_of 
 
 pub stopped_are_prefixes : StoppedArePrefixes
 stopped_are_prefixes p good n journal are part output ss ending s replayed = stopped_first p good n (seen_of journal) (seen_bytes journal are) (goes_on journal) ss output ending replayed part s
-
-seen_alike : (front rest : List ℕ) → MAX_JOURNAL_BYTES < length front → seen_of front ≡ seen_of (front ++ rest)
-unfolding seen_of
-seen_alike front rest long = sym (take-append-le MAX_JOURNAL_BYTES front rest (omega (arith, long)))
-
-goes_alike : (front rest : List ℕ) → MAX_JOURNAL_BYTES < length front → goes_on front ≡ goes_on (front ++ rest)
-unfolding goes_on
-goes_alike front rest long = lt-ltb MAX_JOURNAL_BYTES (length front) long ∙ sym (lt-ltb MAX_JOURNAL_BYTES (length (front ++ rest)) (omega (arith, long, length-append front rest)))
 
 pub long_journals_are_alike : LongJournalsAreAlike
 long_journals_are_alike p n front rest long ss output ending =

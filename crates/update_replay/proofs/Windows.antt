@@ -1,66 +1,55 @@
--- A source through the window of a limit: what is taken of the one is taken of the other.
-use Rattle.std.proofs.Common.{◌≡◌, ℕ, ◌+◌, ◌-◌, ◌≤◌, List, [], ◌∷◌, ◌++◌, length, length-drop, get_or, take, drop, take-append-drop, true, false, Option, Some, None, refl, sym, ap, ap₂, ◌∙◌, subst, arith, lt-ltb, le-ltb}
-use Rattle.std.specs.Prelude.{IsSome, option_map}
-use Rattle.std.specs.Io.KnownBytes.{Consumes}
+-- What is looked at of a journal.
+use Rattle.std.proofs.Common.{◌≡◌, inl, inr, ℕ, ◌<◌, ◌≤◌, min, List, [], ◌++◌, length, length-append, take, append-nil, Bool, ltb, Option, Ok, sym, ap, ◌∙◌, subst, arith, lt-ltb}
+use Rattle.std.specs.Prelude.{Vec}
+use Rattle.std.specs.declared.alloc.Global.{Global}
+use Rattle.std.proofs.lemmas.Bool.{cases_lt}
+use Rattle.std.proofs.lemmas.List.{length-take, take_all, take-append-le}
 use Rattle.tl_numbers.specs.Bytes.{AreBytes}
 use Rattle.tl_base.specs.LimitLaws.{prefix_bytes}
-use Rattle.tl_base.specs.Limits.{after_limit, limited_state}
-use Rattle.tl_base.specs.Using.{Aside, SourceState}
-use Rattle.tl_base.proofs.Limiting.{limited_took, limit_kept}
+use Rattle.tl_base.specs.Taking.{TakesText}
 use Rattle.update_replay.specs.Replays.{goes_on, seen_of}
 use Rattle.update_replay.specs.declared.limits.TheConstants.{MAX_JOURNAL_BYTES}
-
--- ---- a journal
 
 pub seen_bytes : (journal : List ℕ) → AreBytes journal → AreBytes (seen_of journal)
 unfolding seen_of
 seen_bytes journal are = prefix_bytes MAX_JOURNAL_BYTES journal are
 
-pub seen_whole : (journal : List ℕ) → seen_of journal ++ drop MAX_JOURNAL_BYTES journal ≡ journal
-unfolding seen_of
-seen_whole journal = take-append-drop MAX_JOURNAL_BYTES journal
-
-pub ends_there : (journal : List ℕ) → drop MAX_JOURNAL_BYTES journal ≡ [] → goes_on journal ≡ false
+pub goes_by : (journal : List ℕ) (k : ℕ) → k ≡ length journal → ltb MAX_JOURNAL_BYTES k ≡ goes_on journal
 unfolding goes_on
-ends_there journal none = le-ltb MAX_JOURNAL_BYTES (length journal) (omega (arith, ap length none, length-drop MAX_JOURNAL_BYTES journal))
+goes_by journal k is = ap (ltb MAX_JOURNAL_BYTES) is
 
-pub goes_past : (journal : List ℕ) (byte : ℕ) (rest : List ℕ) → drop MAX_JOURNAL_BYTES journal ≡ byte ∷ rest → goes_on journal ≡ true
-unfolding goes_on
-goes_past journal byte rest some = lt-ltb MAX_JOURNAL_BYTES (length journal) (omega (arith, ap length some, length-drop MAX_JOURNAL_BYTES journal))
-
--- ---- the window
-
--- a source that tells its bytes, through the window of the limit
-pub first_left : (o : Option (List ℕ)) (journal : List ℕ) → o ≡ Some journal → option_map (take MAX_JOURNAL_BYTES) o ≡ Some (seen_of journal)
+pub seen_few : (journal : List ℕ) → length (seen_of journal) ≤ MAX_JOURNAL_BYTES
 unfolding seen_of
-first_left o journal is = ap (option_map (take MAX_JOURNAL_BYTES)) is
+seen_few journal = omega (arith, length-take MAX_JOURNAL_BYTES journal)
 
-some_is : (u v : List ℕ) → Some u ≡ Some v → u ≡ v
-some_is u v e = cc
+seen_by : (journal : List ℕ) (end : ℕ) → end ≡ min (length journal) MAX_JOURNAL_BYTES → take end journal ≡ take MAX_JOURNAL_BYTES journal
+seen_by journal end is = elim (cases_lt (length journal) MAX_JOURNAL_BYTES) [
+  | inl lt ↦ take_all end journal (omega (arith, is, lt)) ∙ sym (take_all MAX_JOURNAL_BYTES journal (omega (arith, lt)))
+  | inr ge ↦ (let same : end ≡ MAX_JOURNAL_BYTES = omega (arith, is, ge) in ap (λ (k : ℕ). take k journal) same)
+]
 
--- nothing is left before the limit
-pub at_limit : (s : ℕ) (o : Option (List ℕ)) (b : List ℕ) → option_map (take s) o ≡ Some [] → after_limit s o ≡ b → o ≡ Some b
-at_limit s None b e f = absurd cc
-at_limit s (Some z) b e f = ap Some (sym (take-append-drop s z) ∙ ap₂ (λ (u v : List ℕ). u ++ v) (some_is (take s z) [] e) f)
+pub seen_taken : (journal : List ℕ) (end : ℕ) → end ≡ min (length journal) MAX_JOURNAL_BYTES → take end journal ≡ seen_of journal
+unfolding seen_of
+seen_taken journal end is = seen_by journal end is
 
-some_of : (f : List ℕ → List ℕ) (o : Option (List ℕ)) (z : List ℕ) → option_map f o ≡ Some z → IsSome o
-some_of f None z e = absurd cc
-some_of f (Some x) z e = refl
+-- ---- a journal of which one byte past the limit was taken
 
-consumed : (a b : Option (List ℕ)) (piece rest : List ℕ) → a ≡ Some (piece ++ rest) → b ≡ Some rest → Consumes a b piece
-consumed a b piece rest e f = subst (λ (z : Option (List ℕ)). Consumes z b piece) (sym e) (subst (λ (z : Option (List ℕ)). Consumes (Some (piece ++ rest)) z piece) (sym f) refl)
+pub seen_alike : (front rest : List ℕ) → MAX_JOURNAL_BYTES < length front → seen_of front ≡ seen_of (front ++ rest)
+unfolding seen_of
+seen_alike front rest long = sym (take-append-le MAX_JOURNAL_BYTES front rest (omega (arith, long)))
 
--- a call over a limited source, which kept what stands beside it
-module _ (l k r s m h : ℕ) (x y : SourceState) (e : (limited_state k s y h).aside ≡ (limited_state l r x m).aside) where
-  pub behind_kept : after_limit s y.left ≡ after_limit r x.left
-  behind_kept = ap (λ (a : Aside). get_or a.held 1 []) e
+pub goes_alike : (front rest : List ℕ) → MAX_JOURNAL_BYTES < length front → goes_on front ≡ goes_on (front ++ rest)
+unfolding goes_on
+goes_alike front rest long = lt-ltb MAX_JOURNAL_BYTES (length front) long ∙ sym (lt-ltb MAX_JOURNAL_BYTES (length (front ++ rest)) (omega (arith, long, length-append front rest)))
 
-  pub same_limit : k ≡ l
-  same_limit = limit_kept l k r s m h x y e
+taken_alike : (text rest : List ℕ) → (length text ≤ MAX_JOURNAL_BYTES → rest ≡ []) → (seen_of text ≡ seen_of (text ++ rest)) × (goes_on text ≡ goes_on (text ++ rest))
+taken_alike text rest all = elim (cases_lt MAX_JOURNAL_BYTES (length text)) [
+  | inl long ↦ (seen_alike text rest long, goes_alike text rest long)
+  | inr few ↦ (let same : text ≡ text ++ rest = sym (append-nil text) ∙ ap (λ (z : List ℕ). text ++ z) (sym (all (omega (arith, few)))) in (ap seen_of same, ap goes_on same))
+]
 
-  -- the offset is as far on as what was taken
-  pub moved_on : (piece rest : List ℕ) → (limited_state l r x m).left ≡ Some (piece ++ rest) → (limited_state k s y h).left ≡ Some rest → r ≤ l → (k - s ≡ (l - r) + length piece) × (s ≤ k)
-  moved_on piece rest before after inside =
-      let took = limited_took l k r s m h x y piece e (consumed _ _ piece rest before after) in
-      let near = took.1 (some_of (take r) x.left (piece ++ rest) before) in
-      (omega (arith, near, same_limit, inside), omega (arith, near, same_limit, inside))
+-- what holds of what was taken, holds of the journal
+pub of_taken : (P : List ℕ → Bool → Type 0) (journal : List ℕ) (after : Option (List ℕ)) (text : Vec ℕ Global) → TakesText MAX_JOURNAL_BYTES journal after (Ok text) → P (seen_of text.items) (goes_on text.items) → P (seen_of journal) (goes_on journal)
+of_taken P journal after text took h =
+    let alike = taken_alike text.items took.0 took.4 in
+    subst (λ (z : List ℕ). P (seen_of z) (goes_on z)) (sym took.2) (subst (P (seen_of (text.items ++ took.0))) alike.1 (subst (λ (z : List ℕ). P z (goes_on text.items)) alike.0 h))

@@ -1,8 +1,6 @@
 -- Calls over a sink, one after the other.
-use Rattle.std.proofs.Common.{ℕ, ◌+◌, ◌≤◌, List, length, Option, Some, None, ◌∙◌, arith, refl}
-use Rattle.std.specs.Prelude.{IfSome, IsTrue}
+use Rattle.std.proofs.Common.{ℕ, ◌∙◌, arith, refl}
 use Rattle.tl_base.specs.Using.{SinkState, Wrote, WritesOnly}
-use Rattle.update_replay.specs.ReplayParts.{FitsInto}
 
 pub writes_none : (x : SinkState) (F : Type 0) → (F → ⊥) → WritesOnly x x F
 writes_none x F never = record { later = omega arith; cause = λ f. absurd (never f); kept = refl; room_kept = refl; told = λ t. t; untold = λ t. t; stays = λ t s. s }
@@ -24,11 +22,3 @@ writes_then x y z P F p q =
 
 pub writes_as : (x y : SinkState) (P F : Type 0) → WritesOnly x y P → (F → P) → WritesOnly x y F
 writes_as x y P F p f = record { later = p.later; cause = λ e. p.cause (f e); kept = p.kept; room_kept = p.room_kept; told = p.told; untold = p.untold; stays = p.stays }
-
--- a call that never fails fits
-in_any : (o : Option (List ℕ)) (S : Type 0) (bytes room : ℕ) (F : Type 0) → (F → ⊥) → IfSome o (λ before. S → length before + bytes ≤ room → F → ⊥)
-in_any None S bytes room F never = tt
-in_any (Some before) S bytes room F never = λ s most f. never f
-
-pub fits_never : (s : SinkState) (bytes : ℕ) (F : Type 0) → (F → ⊥) → FitsInto s bytes F
-fits_never s bytes F never = in_any s.written (IsTrue s.sound) bytes s.room F never

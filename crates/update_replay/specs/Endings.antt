@@ -1,5 +1,7 @@
 -- How a replay ends by its journal alone, and as what it answers that. This project's own.
 use Rattle.std.specs.Prelude.{ℕ, Bool, true, false, ◌&&◌, cond, Result, Ok, Err}
+use Rattle.tl_base.specs.declared.source.TextFault.{TextFault}
+use Rattle.tl_base.specs.declared.source.TextFault.TheVariants as text
 use Rattle.tl_types.specs.declared.cause.Cause.{Cause}
 use Rattle.tl_types.specs.declared.cause.Cause.TheVariants.{Truncated}
 use Rattle.wire_profile.specs.declared.wire_fault.WireFault.{WireFault}
@@ -8,7 +10,7 @@ use Rattle.box_world.specs.Possible.{StepCause, no_client, no_packet, wrong_end,
 use Rattle.update_world.specs.declared.fault.StepFault.{StepFault}
 use Rattle.update_world.specs.declared.fault.StepFault.TheVariants as step
 use Rattle.update_replay.specs.declared.fault.ReplayFault.{ReplayFault}
-use Rattle.update_replay.specs.declared.fault.ReplayFault.TheVariants.{Wire, Step, TooLong}
+use Rattle.update_replay.specs.declared.fault.ReplayFault.TheVariants.{Wire, Step, TooLong, ReadFault, Memory}
 
 -- the journal's end after so many steps; bytes at an offset that are no step; a step there that isn't possible; or too many steps, or bytes
 pub data Ending : Type 0 where
@@ -41,3 +43,8 @@ answer_of (whole n) = Ok n
 answer_of (no_step at fault) = Err (Wire at fault)
 answer_of (not_made at cause) = Err (Step at (fault_of cause))
 answer_of (too_long at) = Err (TooLong at)
+
+-- what a text that was not taken is to a replay
+abbrev pub of_text : TextFault → ReplayFault
+of_text text.ReadFault = ReadFault
+of_text text.Memory = Memory

@@ -15,6 +15,5 @@ pub mod MadeSteps
 pub mod MadeLaws
 pub mod Endings
 pub mod Replays
-pub mod ReplayParts
 pub mod Handing
 pub mod ReplayLaws

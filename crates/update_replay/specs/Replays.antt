@@ -107,21 +107,13 @@ pub record Settles (p : ProfileView) (n : ℕ) (seen : List ℕ) (more : Bool) (
   pub answered : result ≡ answer_of ending
   pub stands : StandsThen ending p n s steps
 
--- the lines of some steps stand, after which reading failed
-pub record StopsReading (p : ProfileView) (n : ℕ) (seen : List ℕ) (s : Shown) (output : List ℕ) : Type 0 where
-  pub steps : List Step
-  pub at : ℕ
-  pub left : List ℕ
-  pub began : Began p n seen steps at left output
-  pub stands : StandsAfter p n s steps
-
 -- what is answered, when this is written and the world is as it is
 abbrev pub Ends : ProfileView → ℕ → List ℕ → Bool → Shown → List ℕ → Result ℕ ReplayFault → Type 0
 Ends p n seen more s output (Ok k) = Settles p n seen more s output (Ok k)
 Ends p n seen more s output (Err (Wire at fault)) = Settles p n seen more s output (Err (Wire at fault))
 Ends p n seen more s output (Err (StepFault at fault)) = Settles p n seen more s output (Err (StepFault at fault))
 Ends p n seen more s output (Err (TooLong at)) = Settles p n seen more s output (Err (TooLong at))
-Ends p n seen more s output (Err ReadFault) = StopsReading p n seen s output
+Ends p n seen more s output (Err ReadFault) = (output ≡ []) × StandsAfter p n s []
 Ends p n seen more s output (Err WriteFault) = Stopped p n seen more output
 Ends p n seen more s output (Err Memory) = Stopped p n seen more output
 

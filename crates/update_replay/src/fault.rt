@@ -1,7 +1,7 @@
 //! Why lines are not written, and why a replay stops before its journal's end.
 use std::alloc::AllocError;
 use thiserror::Error;
-use tl_base::{Failed, TextFault, WriteFault};
+use tl_base::{TextFault, WriteFault};
 use update_world::StepFault;
 use wire_profile::WireFault;
 
@@ -56,23 +56,9 @@ pub enum ReplayFault {
     Memory,
 }
 
-impl From<LineFault> for ReplayFault {
-    ghost use Rattle.std.specs.Prelude.{◌≡◌};
-    ghost use Rattle.update_replay.specs.ReplayParts.{of_line};
-
-    ghost from_gives = { λ e f. f ≡ of_line e };
-
-    fn from(e: LineFault) -> ReplayFault {
-        match e {
-            LineFault::WriteFault => ReplayFault::WriteFault,
-            LineFault::Memory => ReplayFault::Memory,
-        }
-    }
-}
-
 impl From<TextFault> for ReplayFault {
     ghost use Rattle.std.specs.Prelude.{◌≡◌};
-    ghost use Rattle.update_replay.specs.ReplayParts.{of_text};
+    ghost use Rattle.update_replay.specs.Endings.{of_text};
 
     ghost from_gives = { λ e f. f ≡ of_text e };
 
@@ -84,13 +70,13 @@ impl From<TextFault> for ReplayFault {
     }
 }
 
-impl From<Failed> for ReplayFault {
+impl From<WriteFault> for ReplayFault {
     ghost use Rattle.std.specs.Prelude.{◌≡◌};
     ghost use Rattle.update_replay.specs.declared.fault.ReplayFault.TheVariants as replay;
 
-    ghost from_gives = { λ _ e. e ≡ replay.ReadFault };
+    ghost from_gives = { λ _ e. e ≡ replay.WriteFault };
 
-    fn from(_e: Failed) -> ReplayFault {
-        ReplayFault::ReadFault
+    fn from(_e: WriteFault) -> ReplayFault {
+        ReplayFault::WriteFault
     }
 }

@@ -1,4 +1,4 @@
-use Rattle.std.proofs.Common.{Some, None, ap}
+use Rattle.std.proofs.Common.{Some, None, sym, ap, ◌∙◌}
 use Rattle.std.proofs.lemmas.Result.{err_from_is_err_and}
 use Rattle.tl_base.specs.declared.host.Slot.TheVariants.{Input}
 use Rattle.outside.specs.Pieces.{text_view}
@@ -16,10 +16,10 @@ returns-in_err-text g c =
     rw p.1 (did_stop_by _ (after_journal c.args.clients c.args.profile) _ _ (can_go_on c.args.profile c.requires.sound c.args.clients c.args.journal.now) (did_more _ _ _ _ c.in_err-text.ensures))
 
 pub replay_text-requires-clause-bytes : goal.replay_text-requires-clause-bytes
-replay_text-requires-clause-bytes g c = did_read_are Input c.args.journal.now MAX_JOURNAL_BYTES _ _ (text_view c.in_ok-text.field-0) c.in-Some.text.items (ap text_view c.in-Some.is) c.in_ok-text.ensures
+replay_text-requires-clause-bytes g c = did_read_are Input c.args.journal.now MAX_JOURNAL_BYTES _ _ (text_view c.in_ok-text.field-0) c.deref.result.now (ap text_view c.in-Some.is ∙ sym (ap Some c.deref.ensures.value)) c.in_ok-text.ensures
 
 pub returns-in-Some : goal.returns-in-Some
-returns-in-Some g c = did_then_at _ (after_journal c.args.clients c.args.profile) _ _ _ (text_view c.in_ok-text.field-0) (Some c.in-Some.text.items) _ (ap text_view c.in-Some.is) (may_file to_output Input c.args.journal.now MAX_JOURNAL_BYTES) (did_any _ _ _ _ c.in_ok-text.ensures) c.replay_text.ensures
+returns-in-Some g c = did_then_at _ (after_journal c.args.clients c.args.profile) _ _ _ (text_view c.in_ok-text.field-0) (Some c.deref.result.now) _ (ap text_view c.in-Some.is ∙ sym (ap Some c.deref.ensures.value)) (may_file to_output Input c.args.journal.now MAX_JOURNAL_BYTES) (did_any _ _ _ _ c.in_ok-text.ensures) c.replay_text.ensures
 
 pub returns-in-None : goal.returns-in-None
 returns-in-None g c = did_then_at _ (after_journal c.args.clients c.args.profile) _ _ _ (text_view c.in_ok-text.field-0) None _ (ap text_view c.in-None.is) (may_file to_output Input c.args.journal.now MAX_JOURNAL_BYTES) (did_any _ _ _ _ c.in_ok-text.ensures) (did_any _ _ _ _ c.tell.ensures)

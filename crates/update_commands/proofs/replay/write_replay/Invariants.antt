@@ -6,8 +6,8 @@ use Rattle.update_commands.proofs.replay.write_replay.Given as goal
 abbrev pub invariant-steps : goal.invariant-steps
 invariant-steps g l =
     let s = g.H.Host in
-    let r = l.fn.replay in
-    record { writing : Writing r.world.profile (length r.world.clients) r.journal l.replay (s.state l.fn.host) (s.state l.host) }
+    let w = l.fn.world in
+    record { writing : Writing w.profile (length w.clients) l.fn.journal l.world l.replay (s.state l.fn.host) (s.state l.host) }
 
 abbrev pub decreases-steps : goal.decreases-steps
 decreases-steps g l = MAX_STEPS - l.replay.steps

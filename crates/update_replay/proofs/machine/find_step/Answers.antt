@@ -1,6 +1,5 @@
-use Rattle.std.proofs.Common.{arith}
 use Rattle.tl_base.specs.Slices.{slice_state}
-use Rattle.update_replay.proofs.Handed.{few_taken, found, none_found, not_found, slice_told}
+use Rattle.update_replay.proofs.Handed.{found, none_found, not_found, slice_told}
 use Rattle.update_replay.proofs.machine.find_step.Goals as goal
 
 pub returns-in_err-step-clause-step : goal.returns-in_err-step-clause-step
@@ -26,15 +25,3 @@ returns-in-None-clause-step c =
     none_found c.args.profile.now c.args.bytes.now w.limit w.rest v.limit v.rest w.from.ghost_name v.from.ghost_name (slice_state w.from.now.at w.from.now.bytes.now) (slice_state v.from.now.at v.from.now.bytes.now) c.read_step.ensures.used.kept
     c.new-window.ensures.limit c.new-window.ensures.rest (slice_told w.from.now c.new-from.result c.args.bytes.now c.new-window.ensures.value c.new-from.ensures.at c.new-from.ensures.bytes)
     (rw c.in-None.is at c.in_ok-step.ensures.read)
-
-pub overflow_cast-result : goal.overflow_cast-result
-overflow_cast-result c =
-    let w = c.new-window.result in
-    let v = c.read_step.new.from in
-    omega (
-      arith,
-      c.requires,
-      c.taken.ensures,
-      few_taken c.args.profile.now c.args.bytes.now w.limit w.rest v.limit v.rest w.from.ghost_name v.from.ghost_name (slice_state w.from.now.at w.from.now.bytes.now) (slice_state v.from.now.at v.from.now.bytes.now) c.read_step.ensures.used.kept
-          c.new-window.ensures.limit c.new-window.ensures.rest (slice_told w.from.now c.new-from.result c.args.bytes.now c.new-window.ensures.value c.new-from.ensures.at c.new-from.ensures.bytes),
-    )

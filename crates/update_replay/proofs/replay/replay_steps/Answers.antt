@@ -1,35 +1,47 @@
-use Rattle.std.proofs.Common.{Err, ap, length}
-use Rattle.tl_base.specs.declared.fault.Failed.{Failed}
-use Rattle.update_replay.proofs.ReplayEnds.{close_failed, end_failed, full_as, not_come, told_end_fits}
-use Rattle.update_replay.proofs.Replaying.{all_done, cut_at_end, goes_past_limit, map_told, same_fault}
-use Rattle.update_replay.proofs.StepsMade.{long_never, same_err}
-use Rattle.update_replay.proofs.WindowSteps.{full_never}
-use Rattle.update_replay.proofs.Writes.{writes_as}
+use Rattle.std.proofs.Common.{ℕ, Bool, List, length, subst}
+use Rattle.std.specs.Prelude.{IsErrOf}
+use Rattle.tl_base.proofs.Uses.{used_as}
+use Rattle.update_replay.specs.Replays.{EndsOn, NeverFull, goes_on, seen_of}
+use Rattle.update_replay.specs.declared.fault.ReplayFault.TheVariants.{WriteFault}
+use Rattle.update_replay.proofs.Replaying.{map_told, not_taken, text_never, text_unread}
+use Rattle.update_replay.proofs.ReplayRooms.{never_full}
+use Rattle.update_replay.proofs.Windows.{of_taken}
+use Rattle.update_replay.proofs.Writes.{writes_none}
 use Rattle.update_replay.proofs.replay.replay_steps.Goals as goal
 
-pub returns-in_err-reached-clause-replayed : goal.returns-in_err-reached-clause-replayed
-returns-in_err-reached-clause-replayed g c = map_told (g.S.Source.state c.args.from.now).left (λ journal h. not_come c.args.world.now.profile (length c.args.world.now.clients) journal c.make_steps.new.world (g.K.Sink.state c.args.to.now).written (g.K.Sink.state c.make_steps.new.to).written (g.S.Source.state c.make_steps.new.from).left c.in_err-reached.field-0.0 c.from_residual.result c.from_residual.ensures.1 h) c.in_err-reached.ensures.made
+pub returns-in_err-journal-clause-replayed : goal.returns-in_err-journal-clause-replayed
+returns-in_err-journal-clause-replayed g c =
+    map_told (g.S.Source.state c.args.from.now).left (λ journal took. not_taken c.args.world.now journal (g.K.Sink.state c.args.to.now).written c.in_err-journal.field-0.0 c.from_residual.result c.requires c.from_residual.ensures.1) c.in_err-journal.ensures.bytes
 
-pub returns-in_err-is_end-clause-replayed : goal.returns-in_err-is_end-clause-replayed
-returns-in_err-is_end-clause-replayed g c = map_told (g.S.Source.state c.args.from.now).left (λ journal h. end_failed c.args.world.now.profile (length c.args.world.now.clients) journal c.make_steps.new.world (g.K.Sink.state c.args.to.now).written (g.K.Sink.state c.make_steps.new.to).written (g.S.Source.state c.make_steps.new.from).left c.in_ok-reached.reached c.from_residual-in_err-is_end.result c.from_residual-in_err-is_end.ensures.1 h) c.in_ok-reached.ensures.made
+pub returns-in_err-journal-clause-read : goal.returns-in_err-journal-clause-read
+returns-in_err-journal-clause-read g c = used_as (g.S.Source.state c.args.from.now) (g.S.Source.state c.take_text.new.from) _ _ c.in_err-journal.ensures.used (λ f. text_unread c.in_err-journal.field-0.0 c.from_residual.result c.from_residual.ensures.1 f)
 
-pub returns-then-not-is_end-clause-replayed : goal.returns-then-not-is_end-clause-replayed
-returns-then-not-is_end-clause-replayed g c = map_told (g.S.Source.state c.args.from.now).left (λ journal h. goes_past_limit c.args.world.now.profile (length c.args.world.now.clients) journal c.make_steps.new.world (g.K.Sink.state c.args.to.now).written (g.K.Sink.state c.make_steps.new.to).written (g.S.Source.state c.make_steps.new.from).left c.in_ok-reached.reached h Failed (g.S.Source.state c.take_end.new.from).left (rw c.if-not-is_end.true at c.in_ok-is_end.ensures.bytes)) c.in_ok-reached.ensures.made
+pub returns-in_err-journal-clause-written : goal.returns-in_err-journal-clause-written
+returns-in_err-journal-clause-written g c = writes_none (g.K.Sink.state c.args.to.now) _ (text_never c.in_err-journal.field-0.0 c.from_residual.result c.from_residual.ensures.1)
 
-pub returns-in-Some-clause-replayed : goal.returns-in-Some-clause-replayed
-returns-in-Some-clause-replayed g c = map_told (g.S.Source.state c.args.from.now).left (λ journal h. cut_at_end c.args.world.now.profile (length c.args.world.now.clients) journal c.make_steps.new.world (g.K.Sink.state c.args.to.now).written (g.K.Sink.state c.make_steps.new.to).written (g.S.Source.state c.make_steps.new.from).left c.in_ok-reached.reached h Failed c.in-Some.fault (g.S.Source.state c.take_end.new.from).left c.in-Some.is (rw c.if-not-is_end.false at c.in_ok-is_end.ensures.bytes)) c.in_ok-reached.ensures.made
-
-pub returns-in_err-write_end-in-None-clause-replayed : goal.returns-in_err-write_end-in-None-clause-replayed
-returns-in_err-write_end-in-None-clause-replayed g c = map_told (g.S.Source.state c.args.from.now).left (λ journal h. close_failed c.args.world.now.profile (length c.args.world.now.clients) journal c.make_steps.new.world (g.K.Sink.state c.args.to.now).written (g.K.Sink.state c.make_steps.new.to).written (g.S.Source.state c.make_steps.new.from).left c.in_ok-reached.reached Failed (g.S.Source.state c.take_end.new.from).left (g.K.Sink.state c.write_end.new.to).written c.in_err-write_end-in-None.field-0.0 c.from_residual-in_err-write_end-in-None.result c.in-None.is (rw c.if-not-is_end.false at c.in_ok-is_end.ensures.bytes) c.in_err-write_end-in-None.ensures.bytes c.from_residual-in_err-write_end-in-None.ensures.1 h) c.in_ok-reached.ensures.made
-
-pub returns-in_err-write_end-in-None-clause-fits : goal.returns-in_err-write_end-in-None-clause-fits
-returns-in_err-write_end-in-None-clause-fits g c = told_end_fits (g.S.Source.state c.args.from.now).left c.args.world.now.profile c.in_ok-reached.ensures.sound (length c.args.world.now.clients) c.make_steps.new.world (g.K.Sink.state c.args.to.now) (g.K.Sink.state c.make_steps.new.to) (g.K.Sink.state c.write_end.new.to) (writes_as (g.K.Sink.state c.args.to.now) (g.K.Sink.state c.make_steps.new.to) _ ⊥ c.in_ok-reached.ensures.written (λ f. absurd f)) (g.S.Source.state c.make_steps.new.from).left (g.S.Source.state c.take_end.new.from).left c.in_ok-reached.reached (g.met.S.Source.are_bytes c.args.from.now) c.in_ok-reached.ensures.made Failed c.in-None.is (rw c.if-not-is_end.false at c.in_ok-is_end.ensures.bytes) c.in_err-write_end-in-None.field-0.0 c.from_residual-in_err-write_end-in-None.result c.from_residual-in_err-write_end-in-None.ensures.1 c.in_err-write_end-in-None.ensures.used
+pub returns-in_err-journal-clause-fits : goal.returns-in_err-journal-clause-fits
+returns-in_err-journal-clause-fits g c =
+    map_told (g.S.Source.state c.args.from.now).left (λ journal took. never_full _ _ _ _ _ _ _ _ (text_never c.in_err-journal.field-0.0 c.from_residual.result c.from_residual.ensures.1)) c.in_err-journal.ensures.bytes
 
 pub returns-clause-replayed : goal.returns-clause-replayed
-returns-clause-replayed g c = map_told (g.S.Source.state c.args.from.now).left (λ journal h. all_done c.args.world.now.profile (length c.args.world.now.clients) journal c.make_steps.new.world (g.K.Sink.state c.args.to.now).written (g.K.Sink.state c.make_steps.new.to).written (g.S.Source.state c.make_steps.new.from).left c.in_ok-reached.reached h Failed (g.S.Source.state c.take_end.new.from).left (g.K.Sink.state c.write_end.new.to).written c.in-None.is (rw c.if-not-is_end.false at c.in_ok-is_end.ensures.bytes) c.in_ok-write_end-in-None.ensures.bytes) c.in_ok-reached.ensures.made
+returns-clause-replayed g c =
+    let P = c.args.world.now.profile in
+    let N = length c.args.world.now.clients in
+    let k = g.K.Sink.state in
+    let A : List ℕ → Bool → Type 0 = λ seen more. EndsOn P N seen more c.write_steps.new.world (k c.args.to.now).written (k c.write_steps.new.to).written c.write_steps.result in
+    map_told (g.S.Source.state c.args.from.now).left
+    (λ journal took. of_taken A journal (g.S.Source.state c.take_text.new.from).left c.in_ok-journal.journal took (subst (λ (z : List ℕ). A (seen_of z) (goes_on z)) c.deref.ensures.value c.write_steps.ensures.replayed))
+    c.in_ok-journal.ensures.bytes
 
-pub returns-in_err-reached-clause-fits : goal.returns-in_err-reached-clause-fits
-returns-in_err-reached-clause-fits g c = full_as (g.S.Source.state c.args.from.now).left c.args.world.now.profile (length c.args.world.now.clients) (g.K.Sink.state c.args.to.now).written (g.K.Sink.state c.args.to.now).sound (g.K.Sink.state c.args.to.now).room _ _ (λ f. ap Err (same_fault c.in_err-reached.field-0.0 _ c.from_residual.result c.from_residual.ensures.1 f)) c.in_err-reached.ensures.fits
+pub returns-clause-read : goal.returns-clause-read
+returns-clause-read g c = used_as (g.S.Source.state c.args.from.now) (g.S.Source.state c.take_text.new.from) _ _ c.in_ok-journal.ensures.used (λ f. absurd (c.write_steps.ensures.unread f))
 
-pub returns-then-not-is_end-clause-fits : goal.returns-then-not-is_end-clause-fits
-returns-then-not-is_end-clause-fits g c = full_never (g.S.Source.state c.args.from.now).left c.args.world.now.profile (length c.args.world.now.clients) (g.K.Sink.state c.args.to.now).written (g.K.Sink.state c.args.to.now).sound (g.K.Sink.state c.args.to.now).room _ (λ f. long_never c.in_ok-reached.reached.at (same_err _ _ f))
+pub returns-clause-fits : goal.returns-clause-fits
+returns-clause-fits g c =
+    let P = c.args.world.now.profile in
+    let N = length c.args.world.now.clients in
+    let k = g.K.Sink.state c.args.to.now in
+    let A : List ℕ → Bool → Type 0 = λ seen more. NeverFull P N seen more k.written k.sound k.room (IsErrOf c.write_steps.result WriteFault) in
+    map_told (g.S.Source.state c.args.from.now).left
+    (λ journal took. of_taken A journal (g.S.Source.state c.take_text.new.from).left c.in_ok-journal.journal took (subst (λ (z : List ℕ). A (seen_of z) (goes_on z)) c.deref.ensures.value c.write_steps.ensures.fits))
+    c.in_ok-journal.ensures.bytes

@@ -1,14 +1,14 @@
-use Rattle.std.proofs.Common.{sym, ◌∙◌, ap, ◌++◌}
+use Rattle.std.proofs.Common.{◌∙◌, ap, ◌++◌}
 use Rattle.update_replay.specs.WorldLines.{end_lines}
 use Rattle.update_replay.proofs.Handed.{closed, memory_out, past_end}
 use Rattle.update_replay.proofs.machine.Replay.close.Goals as goal
 
-pub returns-then-goes_on : goal.returns-then-goes_on
-returns-then-goes_on c = λ p n journal ss output h empty. past_end p n journal ss output c.args.self.now h c.args.self.now c.requires.empty empty (sym c.goes_on.ensures ∙ c.if-goes_on.true)
+pub returns-then-self : goal.returns-then-self
+returns-then-self c = λ p n journal ss output h. past_end p n journal ss output c.args.world.now c.args.self.now h c.args.self.now.lines c.requires.empty c.requires.ended c.if-self.true
 
 pub returns-in-Ok : goal.returns-in-Ok
-returns-in-Ok c = λ p n journal ss output h empty.
-    closed p n journal ss output c.args.self.now h (record c.args.self.now { lines = c.put_end.new.lines }) empty (sym c.goes_on.ensures ∙ c.if-goes_on.false) (c.in-Ok.ensures ∙ ap (λ l. l ++ end_lines c.args.self.now.world) c.requires.empty)
+returns-in-Ok c = λ p n journal ss output h.
+    closed p n journal ss output c.args.world.now c.args.self.now h c.put_end.new.lines c.requires.ended c.if-self.false (c.in-Ok.ensures ∙ ap (λ l. l ++ end_lines c.args.world.now) c.requires.empty)
 
 pub returns-in-Err : goal.returns-in-Err
-returns-in-Err c = λ p n journal ss output h empty. memory_out p n journal ss output c.args.self.now h (record c.args.self.now { lines = c.clear.new.self }) c.clear.ensures.items
+returns-in-Err c = λ p n journal ss output h. memory_out p n journal ss output c.args.world.now c.args.self.now h c.clear.new.self c.args.world.now c.clear.ensures.items
