@@ -1,5 +1,5 @@
 -- A run of `client` that ends with status 0 has recovered its client.
-use Rattle.std.proofs.Common.{◌≡◌, inl, inr, ℕ, ℤ, List, [], ◌∷◌, ◌++◌, Some, Ok, sym, ap, ◌∙◌, subst, codes}
+use Rattle.std.proofs.Common.{◌≡◌, inl, inr, ℕ, ℤ, List, [], ◌∷◌, ◌++◌, Some, Result, Ok, Err, sym, ap, ◌∙◌, subst, codes}
 use Rattle.tl_numbers.specs.Bytes.{AreBytes}
 use Rattle.tl_base.specs.Outside.{View, HasFile}
 use Rattle.tl_schema.specs.Schemas.{Declared}
@@ -21,7 +21,9 @@ use Rattle.schema_files.specs.Answering.{OfSchemaText, no_schema, schema_of}
 use Rattle.schema_files.specs.Loaded.{IsSchemaText}
 use Rattle.fault_lines.specs.Profiled.{IsProfileText, OfProfile, no_profile, profiled}
 use Rattle.fault_lines.proofs.Profiled.{are_profiles}
-use Rattle.update_sessions.specs.Heard.{Hears, IsBrokenOff, asked, broke_off}
+use Rattle.update_sessions.specs.declared.fault.SessionFault.{SessionFault}
+use Rattle.update_sessions.specs.declared.fault.SessionFault.TheVariants as session
+use Rattle.update_sessions.specs.Heard.{Hears, asked, broke_off}
 use Rattle.update_sessions.specs.Honest.{told_all}
 use Rattle.session_commands.specs.Client.{ClientAnswer, HasClient, OfSession, OfState, OfStateFile, client_line, failed, no_client, recovered, too_many, watch_all, watches}
 use Rattle.session_commands.specs.Linked.{next_link}
@@ -61,9 +63,8 @@ not_memory e = cc
 pub profile_is : (schema : List ℕ) (p : ProfileView) → IsProfileText schema p → IsProfile p
 profile_is schema p t = (are_profiles t.schema p t.read.good t.is).0
 
-pub unbroken : (n : ℕ) → IsBrokenOff (Ok n) → ⊥
-unbroken n (inl e) = absurd cc
-unbroken n (inr e) = absurd cc
+pub unbroken : (n : ℕ) → ◌≡◌ {A = Result ℕ SessionFault} (Ok n) (Err session.LinkFault) → ⊥
+unbroken n e = cc
 
 -- a run that ended well: its session, what that sent, and what was saved and told after it
 pub record Ran (schema state_name : List ℕ) (channels : List ℤ) (state : List ℕ) (v w : View) : Type 0 where

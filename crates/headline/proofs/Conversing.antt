@@ -297,7 +297,6 @@ module _ (p : ProfileView) (good : IsProfile p) (s : ServerState) (qs : List Num
   sent_of out t (Err (fault.Client f)) ks h = absurd h
   sent_of out t (Err fault.TooManyFrames) ks h = of_exchange out h.0 t ks h.1
   sent_of out t (Err fault.LinkFault) ks h = of_broken out t ks h
-  sent_of out t (Err fault.Memory) ks h = of_broken out t ks h
 
 -- ---- both together
 

@@ -160,7 +160,6 @@ module _ (p : ProfileView) (good : IsProfile p) where
   served_read s bytes out t (Err (fault.Client f)) cs are h = absurd h
   served_read s bytes out t (Err fault.TooManyFrames) cs are h = (came_read cs bytes h.0 are h.1.came).read
   served_read s bytes out t (Err fault.LinkFault) cs are h = broken_read s t bytes out cs are h
-  served_read s bytes out t (Err fault.Memory) cs are h = broken_read s t bytes out cs are h
 
 -- a session with a server that is s at its moment
 pub session_on : (R : Type 0) (p : ProfileView) (h : List Doing) (s u : ServerState) (now : ℕ) (bytes out : List ℕ) (t : ServerState) (more : List Entry) (e : SessionEnd) → (R → IsProfile p × AreBytes bytes) → now < 2 ^ 31 → HasHistory h s → dated_at u now ≡ dated_at s now

@@ -25,7 +25,7 @@ use Rattle.outside.proofs.Growing.{grew_none}
 use Rattle.outside.proofs.Causing.{happened_first, happened_last}
 use Rattle.outside.proofs.TakenPackets.{none_taken, whole_packet}
 use Rattle.update_sessions.specs.declared.fault.SessionFault.{SessionFault}
-use Rattle.update_sessions.specs.declared.fault.SessionFault.TheVariants.{Packet, Wire, Client, TooManyFrames, LinkFault, Memory}
+use Rattle.update_sessions.specs.declared.fault.SessionFault.TheVariants.{Packet, Wire, Client, TooManyFrames, LinkFault}
 use Rattle.update_sessions.specs.declared.fault.TheConstants.{MAX_FRAMES}
 use Rattle.update_sessions.specs.Kept.{kept_for}
 use Rattle.update_sessions.specs.Packed.{MeansCall, Packed, SpellsFrame}
@@ -173,7 +173,6 @@ module _ (p : ProfileView) where
         not_answered t (Client fault) h = absurd h
         not_answered t TooManyFrames h = absurd h
         not_answered t LinkFault h = absurd h
-        not_answered t Memory h = absurd h
 
         module _ (c : Numbered) (means : MeansCall p c bytes) where
           abbrev AnswersCall : StepOf Act Answered

@@ -26,7 +26,7 @@ pub enum Outcome {
     Answered,
     /// There was none: the link has ended.
     Ended,
-    /// The session fails. The fault is no `Memory`.
+    /// The session fails.
     Failed { fault: SessionFault },
 }
 

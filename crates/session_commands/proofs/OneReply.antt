@@ -1,5 +1,5 @@
 -- What comes of a call is one.
-use Rattle.std.proofs.Common.{◌≡◌, ℕ, zero, suc, List, [], ◌∷◌, ◌++◌, append-nil, append_assoc, length, Some, sym, ap, ◌∙◌, subst, codes, arith}
+use Rattle.std.proofs.Common.{◌≡◌, ℕ, zero, suc, List, [], ◌∷◌, ◌++◌, append-nil, append_assoc, length, sym, ap, ◌∙◌, subst, codes, arith}
 use Rattle.tl_numbers.specs.Bytes.{AreBytes}
 use Rattle.tl_numbers.specs.Numbers.{word}
 use Rattle.tl_base.specs.Packets.{packet}
@@ -32,9 +32,6 @@ bytes_first (a ∷ x) y are (suc k) = bytes_first x y (λ j. are (suc j)) k
 -- a packet of bytes has bytes
 pub body_bytes : (bytes body rest : List ℕ) → bytes ≡ packet body ++ rest → AreBytes bytes → AreBytes body
 body_bytes bytes body rest is are = bytes_first body rest (bytes_after bytes (word (length body)) (body ++ rest) (is ∙ append_assoc (word (length body)) body rest) are)
-
-some_is : {A : Type 0} (x y : A) → Some x ≡ Some y → x ≡ y
-some_is x y e = cc
 
 module _ (p : ProfileView) (good : IsProfile p) (n : ℕ) where
   module _ (body : List ℕ) (are : AreBytes body) where

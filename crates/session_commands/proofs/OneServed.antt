@@ -1,5 +1,5 @@
 -- Over bytes a server's session is one: it takes the same calls, sends the same for them, and ends so.
-use Rattle.std.proofs.Common.{◌≡◌, ℕ, ◌<◌, ◌≤◌, List, [], ◌∷◌, ◌++◌, length, Some, None, Result, Ok, Err, refl, sym, ap, ◌∙◌, subst, arith, inl, inr}
+use Rattle.std.proofs.Common.{◌≡◌, ℕ, ◌<◌, ◌≤◌, List, [], ◌∷◌, ◌++◌, length, Some, Result, Ok, Err, refl, sym, ap, ◌∙◌, subst, arith, inl, inr}
 use Rattle.tl_numbers.specs.Bytes.{AreBytes}
 use Rattle.tl_base.specs.Packets.{IsPacketLength, packet}
 use Rattle.tl_base.specs.declared.packet.PacketCause.{PacketCause}
@@ -33,9 +33,6 @@ use Rattle.session_commands.proofs.OneCall.{never_call, one_call}
 use Rattle.session_commands.proofs.OneReply.{body_bytes}
 use Rattle.session_commands.proofs.OneExchange.{Ended, AreOne, one_ended, rest_bytes}
 
-no_end : (e : SessionEnd) → None ≡ Some e → ⊥
-no_end e is = cc
-
 some_is : (d e : SessionEnd) → Some d ≡ Some e → d ≡ e
 some_is d e is = cc
 
@@ -60,7 +57,6 @@ module _ (p : ProfileView) (good : IsProfile p) where
   EndsWith left n (Err (fault.Client f)) = ⊥
   EndsWith left n (Err fault.TooManyFrames) = n ≡ MAX_FRAMES
   EndsWith left n (Err fault.LinkFault) = ⊥
-  EndsWith left n (Err fault.Memory) = ⊥
 
   never_empty : (left b rest : List ℕ) → left ≡ [] → IsPacketLength (length b) → left ≡ packet b ++ rest → ⊥
   never_empty left b rest none fits parts = never_packet left b rest (packets.Ended 0) (inl (none, refl)) tt fits parts
@@ -77,7 +73,6 @@ module _ (p : ProfileView) (good : IsProfile p) where
   never_more left are n (Err (fault.Client f)) ends few m b rest fits parts means = ends
   never_more left are n (Err fault.TooManyFrames) ends few m b rest fits parts means = omega (arith, ends, few)
   never_more left are n (Err fault.LinkFault) ends few m b rest fits parts means = ends
-  never_more left are n (Err fault.Memory) ends few m b rest fits parts means = ends
 
   pub record Closed (s : ServerState) (bytes out : List ℕ) (t : ServerState) (r : Result ℕ SessionFault) (cs : List Numbered) : Type 0 where
     pub left : List ℕ
@@ -104,7 +99,6 @@ module _ (p : ProfileView) (good : IsProfile p) where
   closed s bytes are out t (Err (fault.Client f)) cs e serves word at whole = absurd serves
   closed s bytes are out t (Err fault.TooManyFrames) cs e (left, ex, all) word at whole = closed_by s bytes are out t (Err fault.TooManyFrames) cs left ex (omega (arith, all)) all
   closed s bytes are out t (Err fault.LinkFault) cs e serves word at whole = absurd (subst IsWhole (sym (some_is link_fault e at)) whole)
-  closed s bytes are out t (Err fault.Memory) cs e serves word at whole = absurd (no_end e at)
 
   -- ---- what is left tells how a session ends
 
@@ -122,14 +116,12 @@ module _ (p : ProfileView) (good : IsProfile p) where
   one_result left are n (Ok j) (Err fault.TooManyFrames) h g = absurd (omega (arith, h.2, g))
   one_result left are n (Ok j) (Err (fault.Client f)) h g = absurd g
   one_result left are n (Ok j) (Err fault.LinkFault) h g = absurd g
-  one_result left are n (Ok j) (Err fault.Memory) h g = absurd g
   one_result left are n (Err (fault.Packet e)) (Ok k) h g = absurd (ends_empty left e g.0 h.0 h.1)
   one_result left are n (Err (fault.Packet e)) (Err (fault.Packet f)) h g = ap (λ (z : PacketCause). Err (fault.Packet z)) (one_packet_fault left e f (inr h.0) (inr g.0) h.1 g.1)
   one_result left are n (Err (fault.Packet e)) (Err (fault.Wire f)) h g = absurd (never_packet left g.0.body g.0.rest e (inr h.0) h.1 g.0.fits g.0.parts)
   one_result left are n (Err (fault.Packet e)) (Err fault.TooManyFrames) h g = absurd (omega (arith, h.2, g))
   one_result left are n (Err (fault.Packet e)) (Err (fault.Client f)) h g = absurd g
   one_result left are n (Err (fault.Packet e)) (Err fault.LinkFault) h g = absurd g
-  one_result left are n (Err (fault.Packet e)) (Err fault.Memory) h g = absurd g
   one_result left are n (Err (fault.Wire e)) (Ok k) h g = absurd (never_empty left h.0.body h.0.rest g.0 h.0.fits h.0.parts)
   one_result left are n (Err (fault.Wire e)) (Err (fault.Packet f)) h g = absurd (never_packet left h.0.body h.0.rest f (inr g.0) g.1 h.0.fits h.0.parts)
   one_result left are n (Err (fault.Wire e)) (Err (fault.Wire f)) h g =
@@ -138,17 +130,14 @@ module _ (p : ProfileView) (good : IsProfile p) where
   one_result left are n (Err (fault.Wire e)) (Err fault.TooManyFrames) h g = absurd (omega (arith, h.1, g))
   one_result left are n (Err (fault.Wire e)) (Err (fault.Client f)) h g = absurd g
   one_result left are n (Err (fault.Wire e)) (Err fault.LinkFault) h g = absurd g
-  one_result left are n (Err (fault.Wire e)) (Err fault.Memory) h g = absurd g
   one_result left are n (Err fault.TooManyFrames) (Ok k) h g = absurd (omega (arith, h, g.2))
   one_result left are n (Err fault.TooManyFrames) (Err (fault.Packet f)) h g = absurd (omega (arith, h, g.2))
   one_result left are n (Err fault.TooManyFrames) (Err (fault.Wire f)) h g = absurd (omega (arith, h, g.1))
   one_result left are n (Err fault.TooManyFrames) (Err fault.TooManyFrames) h g = refl
   one_result left are n (Err fault.TooManyFrames) (Err (fault.Client f)) h g = absurd g
   one_result left are n (Err fault.TooManyFrames) (Err fault.LinkFault) h g = absurd g
-  one_result left are n (Err fault.TooManyFrames) (Err fault.Memory) h g = absurd g
   one_result left are n (Err (fault.Client f)) q h g = absurd h
   one_result left are n (Err fault.LinkFault) q h g = absurd h
-  one_result left are n (Err fault.Memory) q h g = absurd h
 
   -- ---- the session of a connection
 

@@ -1,5 +1,5 @@
 -- What a client's session does over bytes is one, and no other may ask for more.
-use Rattle.std.proofs.Common.{◌≡◌, inl, inr, ℕ, ◌<◌, ◌≤◌, List, [], ◌∷◌, ◌++◌, length, true, false, true≢false, Some, None, Result, Ok, Err, refl, sym, ap, ap₂, ◌∙◌, subst, arith}
+use Rattle.std.proofs.Common.{◌≡◌, ℕ, ◌<◌, ◌≤◌, List, [], ◌∷◌, ◌++◌, length, true, false, true≢false, Some, None, Result, Ok, Err, refl, sym, ap, ap₂, ◌∙◌, subst, arith}
 use Rattle.tl_numbers.specs.Bytes.{AreBytes}
 use Rattle.tl_base.specs.declared.packet.PacketCause.{PacketCause}
 use Rattle.tl_encode.proofs.OneSpelling.{one_spelling}
@@ -21,10 +21,10 @@ use Rattle.box_wire.specs.Framing.{WireRefused}
 use Rattle.box_wire.proofs.Exactly as exactly
 use Rattle.box_wire.proofs.FrameLaws.{frame_formed, frame_laws}
 use Rattle.update_sessions.specs.declared.fault.SessionFault.{SessionFault}
-use Rattle.update_sessions.specs.declared.fault.SessionFault.TheVariants.{Packet, Wire, Client, TooManyFrames, LinkFault, Memory}
+use Rattle.update_sessions.specs.declared.fault.SessionFault.TheVariants.{Packet, Wire, Client, TooManyFrames, LinkFault}
 use Rattle.update_sessions.specs.declared.fault.TheConstants.{MAX_FRAMES}
 use Rattle.update_sessions.specs.Exchanges.{Exchanged}
-use Rattle.update_sessions.specs.Heard.{NoFrame, RefusedFrame, HearsOn, IsBrokenOff, Hears, broke_off, asked}
+use Rattle.update_sessions.specs.Heard.{NoFrame, RefusedFrame, HearsOn, Hears, broke_off, asked}
 use Rattle.update_sessions.specs.Hearing.{IsTaken, cause_of, client_side}
 use Rattle.update_sessions.specs.Packed.{Came, MeansFrame, Packed, SpellsCall}
 use Rattle.update_sessions.specs.Receiving.{ComesFirst, RefusedPacket}
@@ -41,11 +41,6 @@ IsWhole (Err (Wire fault)) = Unit {0}
 IsWhole (Err (Client fault)) = Unit {0}
 IsWhole (Err TooManyFrames) = Unit {0}
 IsWhole (Err LinkFault) = ⊥
-IsWhole (Err Memory) = ⊥
-
-not_broken : (r : Result ℕ SessionFault) → IsWhole r → IsBrokenOff r → ⊥
-not_broken r whole (inl is) = subst IsWhole is whole
-not_broken r whole (inr is) = subst IsWhole is whole
 
 -- what is left of bytes are bytes
 left_bytes : {M : Type 0} (Means : M → List ℕ → Type 0) (ms : List M) (bytes left : List ℕ) → Came Means bytes ms left → AreBytes bytes → AreBytes left
@@ -84,7 +79,6 @@ module _ (p : ProfileView) (good : IsProfile p) where
   EndsSo left d k (Err (Client fault)) = (is_one_asking d ≡ true) × (k < MAX_FRAMES) × (f : Frame) × RefusedFrame p d left f fault
   EndsSo left d k (Err TooManyFrames) = (is_one_asking d ≡ true) × (k ≡ MAX_FRAMES)
   EndsSo left d k (Err LinkFault) = ⊥
-  EndsSo left d k (Err Memory) = ⊥
 
   not_asking : (d : ClientState) → is_one_asking d ≡ false → is_one_asking d ≡ true → ⊥
   not_asking d calm asks = true≢false (sym asks ∙ calm)
@@ -106,7 +100,6 @@ module _ (p : ProfileView) (good : IsProfile p) where
   stops_so left d k (Err (Client fault)) are (asks, few, f, refused) m rest less c t = client_stops left rest d m f fault are refused c t.clear
   stops_so left d k (Err TooManyFrames) are (asks, most) m rest less c t = omega (arith, most, less)
   stops_so left d k (Err LinkFault) are h m rest less c t = h
-  stops_so left d k (Err Memory) are h m rest less c t = h
 
   few_so : (left : List ℕ) (d : ClientState) (k : ℕ) (r : Result ℕ SessionFault) → EndsSo left d k r → ((n : ℕ) → r ≡ Ok n → n ≤ MAX_FRAMES) → k ≤ MAX_FRAMES
   few_so left d k (Ok n) h most = omega (arith, most n refl, h.1)
@@ -115,7 +108,6 @@ module _ (p : ProfileView) (good : IsProfile p) where
   few_so left d k (Err (Client fault)) h most = omega (arith, h.1)
   few_so left d k (Err TooManyFrames) h most = omega (arith, h.1)
   few_so left d k (Err LinkFault) h most = absurd h
-  few_so left d k (Err Memory) h most = absurd h
 
   -- an exchange that ends so
   record EndsAt (c : ClientState) (bytes out : List ℕ) (d : ClientState) (fs : List Frame) (r : Result ℕ SessionFault) : Type 0 where
@@ -143,7 +135,6 @@ module _ (p : ProfileView) (good : IsProfile p) where
   heard_on c bytes out d (Err (Client fault)) fs last are whole (left, f, still, refused, is) = ends_by c bytes left out d fs (Err (Client fault)) are still.exchanged (still.asking, still.few, f, refused) (no_count (Client fault))
   heard_on c bytes out d (Err TooManyFrames) fs last are whole (left, e, asks, is, none) = ends_by c bytes left out d fs (Err TooManyFrames) are e (asks, is) (no_count TooManyFrames)
   heard_on c bytes out d (Err LinkFault) fs last are whole h = absurd whole
-  heard_on c bytes out d (Err Memory) fs last are whole h = absurd whole
 
   -- all that was asked at first, and then that
   record WholeSession (c : ClientState) (bytes out : List ℕ) (d : ClientState) (r : Result ℕ SessionFault) : Type 0 where
@@ -155,7 +146,7 @@ module _ (p : ProfileView) (good : IsProfile p) where
     ends : EndsAt (begun c) bytes more d frames r
 
   heard : (c : ClientState) (bytes out : List ℕ) (d : ClientState) (r : Result ℕ SessionFault) (fs last : List Frame) → AreBytes bytes → IsWhole r → Hears p c bytes out d r fs last → WholeSession c bytes out d r
-  heard c bytes out d r fs last are whole (broke_off broken part is none empty) = absurd (not_broken r whole broken)
+  heard c bytes out d r fs last are whole (broke_off broken part is none empty) = absurd (subst IsWhole broken whole)
   heard c bytes out d r fs last are whole (asked first more packed parts on) = record { frames = fs; first = first; more = more; asked = packed; parts = parts; ends = heard_on (begun c) bytes more d r fs last are whole on }
 
   same_asked : (c : ClientState) (x y : List ℕ) → Packed (SpellsCall p) (ticks (wakes c)).asks x → Packed (SpellsCall p) (ticks (wakes c)).asks y → x ≡ y
@@ -215,9 +206,7 @@ module _ (p : ProfileView) (good : IsProfile p) where
   one_end left d k (Err TooManyFrames) (Err (Client e)) are h g = absurd (not_most k g.1 h.1)
   one_end left d k (Err TooManyFrames) (Err TooManyFrames) are h g = refl
   one_end left d k (Err LinkFault) q are h g = absurd h
-  one_end left d k (Err Memory) q are h g = absurd h
   one_end left d k r (Err LinkFault) are h g = absurd g
-  one_end left d k r (Err Memory) are h g = absurd g
 
   -- two sessions over the same bytes
   pub record AreSessions (out : List ℕ) (d : ClientState) (r : Result ℕ SessionFault) (sent : List ℕ) (e : ClientState) (q : Result ℕ SessionFault) : Type 0 where

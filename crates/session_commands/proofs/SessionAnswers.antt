@@ -38,7 +38,6 @@ whole_told (session.Wire f) line short tells = tt
 whole_told (session.Client f) line short tells = tt
 whole_told session.TooManyFrames line short tells = tt
 whole_told session.LinkFault line short tells = none_some line tells
-whole_told session.Memory line short tells = none_some line tells
 
 -- ---- answers
 

@@ -13,14 +13,13 @@ use Rattle.session_commands.specs.Post.{IsWordLong}
 abbrev pub many_frames_line : List ℕ
 many_frames_line = unplaced_line (codes "peer") (codes "TooManyFrames")
 
--- of what the other end did wrong; a fault of the link and out of memory have none
+-- of what the other end did wrong; a fault of the link has none
 abbrev pub session_line : SessionFault → Option (List ℕ)
 session_line (session.Packet fault) = Some (packet_line fault)
 session_line (session.Wire fault) = Some (wire_line (codes "peer") fault)
 session_line (session.Client fault) = Some (answer_line fault)
 session_line session.TooManyFrames = Some many_frames_line
 session_line session.LinkFault = None
-session_line session.Memory = None
 
 -- a length that no packet has is one of four bytes
 abbrev pub IsShort : SessionFault → Type 0
@@ -29,7 +28,6 @@ IsShort (session.Wire fault) = Unit {0}
 IsShort (session.Client fault) = Unit {0}
 IsShort session.TooManyFrames = Unit {0}
 IsShort session.LinkFault = Unit {0}
-IsShort session.Memory = Unit {0}
 
 -- the other end's fault with this line, or out of memory
 abbrev pub PeerWith : Option (List ℕ) → Stop → Type 0
@@ -47,4 +45,3 @@ TellsSession (session.Wire fault) s = PeerWith (Some (wire_line (codes "peer") f
 TellsSession (session.Client fault) s = PeerWith (Some (answer_line fault)) s
 TellsSession session.TooManyFrames s = PeerWith (Some many_frames_line) s
 TellsSession session.LinkFault s = s ≡ stop.LinkFault
-TellsSession session.Memory s = s ≡ stop.Memory

@@ -21,7 +21,6 @@ pub fn session_stop(alloc: Global, fault: SessionFault) -> Stop
         SessionFault::Client(fault) => Stop::of_peer(answer_line(alloc, fault)),
         SessionFault::TooManyFrames => many_frames(alloc),
         SessionFault::LinkFault => Stop::LinkFault,
-        SessionFault::Memory => Stop::Memory,
     }
 }
 

@@ -3,6 +3,8 @@ use Rattle.std.proofs.Common.{◌≡◌, inl, inr, ℕ, ◌+◌, ◌<◌, ◌≤
 use Rattle.std.proofs.lemmas.Bool.Decides.{nat_tests}
 use Rattle.tl_numbers.specs.Bytes.{AreBytes}
 use Rattle.tl_base.specs.declared.host.Slot.TheVariants.{Link}
+use Rattle.tl_base.specs.declared.fault.Fault.{Fault}
+use Rattle.tl_base.specs.declared.fault.Fault.TheVariants as either
 use Rattle.tl_base.specs.declared.packet.PacketCause.TheVariants.{Ended}
 use Rattle.box_events.specs.declared.replies.Frame.{Frame}
 use Rattle.box_events.specs.declared.requests.Numbered.{Numbered}
@@ -24,7 +26,7 @@ use Rattle.outside.specs.Steps.{Begins, Grows, Turn, again, leave, Reaches, Loop
 use Rattle.outside.proofs.Growing.{Leaves, can_end, can_then, can_loop, did_any, did_both, did_none, did_nothing, did_stop, did_then, grew_none, loop_left, loop_stopped, reached_turn}
 use Rattle.outside.proofs.TakenPackets.{none_taken, whole_packet}
 use Rattle.update_sessions.specs.declared.fault.SessionFault.{SessionFault}
-use Rattle.update_sessions.specs.declared.fault.SessionFault.TheVariants.{Packet, Wire, Client, TooManyFrames, LinkFault, Memory}
+use Rattle.update_sessions.specs.declared.fault.SessionFault.TheVariants.{Packet, Wire, Client, TooManyFrames, LinkFault}
 use Rattle.update_sessions.specs.declared.fault.TheConstants.{MAX_FRAMES}
 use Rattle.update_sessions.specs.Hearing.{cause_of, hears}
 use Rattle.update_sessions.specs.Packed.{MeansFrame, Packed, SpellsCall}
@@ -67,13 +69,13 @@ module _ (p : ProfileView) where
 
   module _ (c d : ClientState) (bytes out : List ℕ) where
     -- it was not taken
-    pub not_heard : (fault : SessionFault) (q : HostState) → Begins (HearsBytes p c bytes) [] → HearsPacket p c bytes out d (Err fault) → DidIn to_link (HearsBytes p c bytes) q q (outcome d (Err fault))
-    not_heard (Packet fault) q can h = absurd h
-    not_heard (Wire fault) q can h = record { trace = []; grew = grew_none q; holds = no_frame fault h.0 refl refl }
-    not_heard (Client fault) q can h = record { trace = []; grew = grew_none q; holds = refused fault h.0 refl refl }
-    not_heard TooManyFrames q can h = absurd h
-    not_heard LinkFault q can h = absurd h
-    not_heard Memory q can h = did_none (HearsBytes p c bytes) q can
+    pub not_heard : (fault : Fault SessionFault) (q : HostState) → Begins (HearsBytes p c bytes) [] → HearsPacket p c bytes out d (Err fault) → DidIn to_link (HearsBytes p c bytes) q q (outcome d (Err fault))
+    not_heard (either.Refused (Packet fault)) q can h = absurd h
+    not_heard (either.Refused (Wire fault)) q can h = record { trace = []; grew = grew_none q; holds = no_frame fault h.0 refl refl }
+    not_heard (either.Refused (Client fault)) q can h = record { trace = []; grew = grew_none q; holds = refused fault h.0 refl refl }
+    not_heard (either.Refused TooManyFrames) q can h = absurd h
+    not_heard (either.Refused LinkFault) q can h = absurd h
+    not_heard either.Memory q can h = did_none (HearsBytes p c bytes) q can
 
     -- it was taken, and what is due was sent, or not
     module _ (turned : HearsPacket p c bytes out d (Ok tt)) (r s : HostState) where
@@ -143,13 +145,9 @@ module _ (p : ProfileView) where
     by_fault : (fault : SessionFault) → is_one_asking c ≡ true → n < MAX_FRAMES → DidIn to_link (HearsNext p c) q r (Some (Err fault)) → DidIn to_link (Loops (HearsOn p) s) a r (Some (Err fault))
     by_fault fault asks few h = loop_left (HearsOn p) s (c, n) (leave (Err fault)) (Err fault) a q r refl g (turn_made c n q r asks few (Err fault) h)
 
-    pub last_turn : (d : ClientState) (fault : SessionFault) → is_one_asking c ≡ true → n < MAX_FRAMES → DidIn to_link (HearsNext p c) q r (outcome d (Err fault)) → DidIn to_link (Loops (HearsOn p) s) a r (outcome d (Err fault))
-    last_turn d (Packet fault) asks few h = by_fault (Packet fault) asks few h
-    last_turn d (Wire fault) asks few h = by_fault (Wire fault) asks few h
-    last_turn d (Client fault) asks few h = by_fault (Client fault) asks few h
-    last_turn d TooManyFrames asks few h = by_fault TooManyFrames asks few h
-    last_turn d LinkFault asks few h = by_fault LinkFault asks few h
-    last_turn d Memory asks few h = loop_stopped (HearsOn p) s (c, n) a q r leaves_at (λ x m t h. may_hear p x t (again m) h) g (turn_stopped c n q r asks few h)
+    pub last_turn : (d : ClientState) (fault : Fault SessionFault) → is_one_asking c ≡ true → n < MAX_FRAMES → DidIn to_link (HearsNext p c) q r (outcome d (Err fault)) → DidIn to_link (Loops (HearsOn p) s) a r (outcome d (Err fault))
+    last_turn d (either.Refused fault) asks few h = by_fault fault asks few h
+    last_turn d either.Memory asks few h = loop_stopped (HearsOn p) s (c, n) a q r leaves_at (λ x m t h. may_hear p x t (again m) h) g (turn_stopped c n q r asks few h)
 
   module _ (s : Heard) (c : ClientState) (n : ℕ) (a q : HostState) (g : Grows a q (λ t. Reaches (HearsOn p) s t (c, n))) where
     ended_by : (more : Bool) → is_one_asking c ≡ false → ltb n MAX_FRAMES ≡ more → DidIn to_link (Loops (HearsOn p) s) a q (Some (Ok c))

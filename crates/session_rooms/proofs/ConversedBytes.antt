@@ -289,7 +289,7 @@ module _ (p : ProfileView) where
   begun_cut : (c : ClientState) (fault : SessionFault) (a m : Outside) → AskedPart (wakes c) fault a m → Session c (Err fault) a m
   begun_cut c fault a m asked =
       subst (λ (e : SessionFault). Session c (Err e) a m) (sym asked.is)
-      (asked.part, asked.wrote, (begun c, honestly p c (begun c) (given_by a) asked.part (Err session.LinkFault) [] [] (heard_by.broke_off (inl refl) asked.packed refl refl refl), tt))
+      (asked.part, asked.wrote, (begun c, honestly p c (begun c) (given_by a) asked.part (Err session.LinkFault) [] [] (heard_by.broke_off refl asked.packed refl refl refl), tt))
 
   after_first : (c : ClientState) (q r : Outcome) (t u : List Event) (a m b : Outside) → Asks p (wakes c) t q → after_begin p q u r → Fits t a m → Fits u m b → Session c r a b
   after_first c (Ok d) r t u a m b asks h f g =

@@ -1,5 +1,5 @@
 -- What is left of a client, and how a session's fault is told.
-use Rattle.std.proofs.Common.{◌≡◌, ℕ, List, [], true, false, Option, Some, None, Ok, Err, Vec, Global, refl, sym, ap, ◌∙◌, subst}
+use Rattle.std.proofs.Common.{◌≡◌, ℕ, List, [], true, false, Option, Some, None, Ok, Err, Vec, Global, sym, ap, ◌∙◌, subst}
 use Rattle.tl_base.specs.declared.host.Out.TheVariants as outs
 use Rattle.box_client.specs.States.{ClientState}
 use Rattle.wire_profile.specs.Indexes.{ProfileView}
@@ -24,7 +24,6 @@ use Rattle.session_commands.specs.inner.Recovering.{LeavesOf}
 use Rattle.session_rooms.proofs.Conversed.{may_converse}
 use Rattle.session_rooms.specs.Client.{Leaves, no_memory, saves, after_connect, after_create, after_session, after_state, ends_by}
 use Rattle.session_rooms.specs.Conversing.{Converses, Outcome, outcome}
-use Rattle.session_rooms.specs.inner.Ends.{TellsEnd}
 
 -- memory may run out
 pub can_leave : (p : ProfileView) (name : List ℕ) (c : ClientState) → Begins (Leaves p name c) []
@@ -51,31 +50,24 @@ by_peer : (o : Option (List ℕ)) (line : List ℕ) (q r : HostState) (status : 
 by_peer o line q r status is h = subst (λ (x : Option (List ℕ)). DidIn to_link (ends_by x) q r (Some status)) (sym is) (did_any _ q r status h)
 
 module _ (q r : HostState) (status : Status) where
-  pub peer_told : (fault : SessionFault) (line : Vec ℕ Global) (told : List ℕ) → TellsSession fault (stop.Peer line) → told ≡ line.items → Did (Tells told PeerFault) q r (Some status) → TellsEnd fault q r (Some status)
+  pub peer_told : (fault : SessionFault) (line : Vec ℕ Global) (told : List ℕ) → TellsSession fault (stop.Peer line) → told ≡ line.items → Did (Tells told PeerFault) q r (Some status) → DidIn to_link (ends_by (session_line fault)) q r (Some status)
   peer_told (session.Packet f) line told is same h = by_peer (session_line (session.Packet f)) told q r status (is ∙ ap Some (sym same)) h
   peer_told (session.Wire f) line told is same h = by_peer (session_line (session.Wire f)) told q r status (is ∙ ap Some (sym same)) h
   peer_told (session.Client f) line told is same h = by_peer (session_line (session.Client f)) told q r status (is ∙ ap Some (sym same)) h
   peer_told session.TooManyFrames line told is same h = by_peer (session_line session.TooManyFrames) told q r status (is ∙ ap Some (sym same)) h
   peer_told session.LinkFault line told is same h = absurd (let no : stop.Peer line ≡ stop.LinkFault = is in cc)
-  peer_told session.Memory line told is same h = absurd (let no : stop.Peer line ≡ stop.Memory = is in cc)
 
   -- the link failed
-  pub link_told : (fault : SessionFault) → TellsSession fault stop.LinkFault → Did (Tells link_fault_line LinkFault) q r (Some status) → TellsEnd fault q r (Some status)
+  pub link_told : (fault : SessionFault) → TellsSession fault stop.LinkFault → Did (Tells link_fault_line LinkFault) q r (Some status) → DidIn to_link (ends_by (session_line fault)) q r (Some status)
   link_told (session.Packet f) is h = absurd is
   link_told (session.Wire f) is h = absurd is
   link_told (session.Client f) is h = absurd is
   link_told session.TooManyFrames is h = absurd is
   link_told session.LinkFault is h = did_any _ q r status h
-  link_told session.Memory is h = absurd (let no : stop.LinkFault ≡ stop.Memory = is in cc)
 
 -- there was no memory for its line
-pub none_told : (fault : SessionFault) (q : HostState) → TellsEnd fault q q None
-none_told (session.Packet f) q = did_none _ q (can_end_by (session_line (session.Packet f)))
-none_told (session.Wire f) q = did_none _ q (can_end_by (session_line (session.Wire f)))
-none_told (session.Client f) q = did_none _ q (can_end_by (session_line (session.Client f)))
-none_told session.TooManyFrames q = did_none _ q (can_end_by (session_line session.TooManyFrames))
-none_told session.LinkFault q = did_none _ q (can_end_by None)
-none_told session.Memory q = (refl, refl)
+pub none_told : (fault : SessionFault) (q : HostState) → DidIn to_link (ends_by (session_line fault)) q q None
+none_told fault q = did_none _ q (can_end_by (session_line fault))
 
 -- ---- what follows of a session
 
@@ -87,12 +79,9 @@ module _ (p : ProfileView) (name : List ℕ) (c d : ClientState) (q r s : HostSt
   pub left_after : (answer : Option Status) → DidIn to_link (Converses p c) q r (outcome d (Ok tt)) → DidIn to_link (Leaves p name d) r s answer → DidIn to_link (after_connect p name c true) q s answer
   left_after answer h l = did_then (Converses p c) (after_session p name) q r s (Ok d) answer (may_converse p c) h l
 
-  pub told_after : (fault : SessionFault) (answer : Option Status) → DidIn to_link (Converses p c) q r (outcome d (Err fault)) → TellsEnd fault r s answer → DidIn to_link (after_connect p name c true) q s answer
-  told_after (session.Packet f) answer h e = did_then (Converses p c) (after_session p name) q r s (Err (session.Packet f)) answer (may_converse p c) h e
-  told_after (session.Wire f) answer h e = did_then (Converses p c) (after_session p name) q r s (Err (session.Wire f)) answer (may_converse p c) h e
-  told_after (session.Client f) answer h e = did_then (Converses p c) (after_session p name) q r s (Err (session.Client f)) answer (may_converse p c) h e
-  told_after session.TooManyFrames answer h e = did_then (Converses p c) (after_session p name) q r s (Err session.TooManyFrames) answer (may_converse p c) h e
-  told_after session.LinkFault answer h e = did_then (Converses p c) (after_session p name) q r s (Err session.LinkFault) answer (may_converse p c) h e
-  told_after session.Memory answer h e =
-      subst (λ (o : Option Status). DidIn to_link (after_connect p name c true) q s o) (sym e.0)
-      (subst (λ (z : HostState). DidIn to_link (after_connect p name c true) q z None) (sym e.1) (did_stop (Converses p c) (after_session p name) q r (can_after_session p name) h))
+  pub told_after : (fault : SessionFault) (answer : Option Status) → DidIn to_link (Converses p c) q r (Some (Err fault)) → DidIn to_link (ends_by (session_line fault)) r s answer → DidIn to_link (after_connect p name c true) q s answer
+  told_after fault answer h e = did_then (Converses p c) (after_session p name) q r s (Err fault) answer (may_converse p c) h e
+
+-- memory ran out in the session
+pub stopped_after : (p : ProfileView) (name : List ℕ) (c : ClientState) (q r : HostState) → DidIn to_link (Converses p c) q r None → DidIn to_link (after_connect p name c true) q r None
+stopped_after p name c q r h = did_stop (Converses p c) (after_session p name) q r (can_after_session p name) h

@@ -1,7 +1,9 @@
 -- A client's session over the link in hand, packet by packet: what is asked is sent before the next packet is taken. This project's own.
 use Rattle.std.specs.Prelude.{◌≡◌, ℕ, ◌+◌, ltb, List, [], Bool, true, false, Option, Some, None, Result, Ok, Err}
 use Rattle.tl_base.specs.declared.host.Slot.TheVariants.{Link}
-use Rattle.tl_base.specs.declared.packet.PacketCause.TheVariants.{BadLength, Ended}
+use Rattle.tl_base.specs.declared.fault.Fault.{Fault}
+use Rattle.tl_base.specs.declared.fault.Fault.TheVariants.{Refused, Memory}
+use Rattle.tl_base.specs.declared.packet.PacketCause.TheVariants.{Ended}
 use Rattle.box_events.specs.declared.replies.Frame.{Frame}
 use Rattle.box_client.specs.States.{ClientState}
 use Rattle.box_client.specs.Asking.{ticks, wakes, is_one_asking}
@@ -14,7 +16,7 @@ use Rattle.outside.specs.Events.{Event}
 use Rattle.outside.specs.Packets.{PacketView, whole, none, wrong, broken, TakesPacket}
 use Rattle.outside.specs.Steps.{Step, Turn, again, leave, Ends, Then, Loops}
 use Rattle.update_sessions.specs.declared.fault.SessionFault.{SessionFault}
-use Rattle.update_sessions.specs.declared.fault.SessionFault.TheVariants.{Packet, Wire, Client, TooManyFrames, LinkFault, Memory}
+use Rattle.update_sessions.specs.declared.fault.SessionFault.TheVariants.{Packet, Wire, Client, TooManyFrames, LinkFault}
 use Rattle.update_sessions.specs.declared.fault.TheConstants.{MAX_FRAMES}
 use Rattle.update_sessions.specs.Hearing.{IsTaken, hears}
 use Rattle.update_sessions.specs.Packed.{MeansFrame, SpellsCall}
@@ -81,11 +83,7 @@ Converses p c = Then (Asks p (wakes c)) (after_begin p)
 
 -- ---- what calls answer; none where they ran out of memory
 
-abbrev pub outcome : ClientState → Result (Unit {0}) SessionFault → Option Outcome
+abbrev pub outcome : ClientState → Result (Unit {0}) (Fault SessionFault) → Option Outcome
 outcome d (Ok u) = Some (Ok d)
-outcome d (Err (Packet fault)) = Some (Err (Packet fault))
-outcome d (Err (Wire fault)) = Some (Err (Wire fault))
-outcome d (Err (Client fault)) = Some (Err (Client fault))
-outcome d (Err TooManyFrames) = Some (Err TooManyFrames)
-outcome d (Err LinkFault) = Some (Err LinkFault)
+outcome d (Err (Refused fault)) = Some (Err fault)
 outcome d (Err Memory) = None

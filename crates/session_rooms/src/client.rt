@@ -17,7 +17,7 @@ use outside::{Host, LoadError, Status, finish, print_made, read_file, tell};
 use schema_files::{SCHEMA_BYTES, schema_of};
 use session_commands::{MAX_STATE_BYTES, client_in, watch_all};
 use std::alloc::{AllocError, Global};
-use tl_base::Slot;
+use tl_base::{Fault, Slot};
 use tl_schema::Schema;
 use wire_profile::Profile;
 
@@ -174,6 +174,7 @@ fn recover_linked<H: Host>(
 {
     match converse(alloc, host, profile, client) {
         Ok(()) => save_client(alloc, host, profile, state, client),
-        Err(fault) => tell_session(alloc, host, fault),
+        Err(Fault::Refused(fault)) => tell_session(alloc, host, fault),
+        Err(Fault::Memory) => Err(AllocError),
     }
 }

@@ -12,7 +12,7 @@ use box_client::Client;
 use box_events::Asks;
 use outside::{Host, Packet, take_packet};
 use std::alloc::Global;
-use tl_base::{Bytes, PacketCause, Slot};
+use tl_base::{Bytes, Fault, PacketCause, Slot};
 use update_sessions::{MAX_FRAMES, SessionFault, ask_all, hear_packet};
 use wire_profile::Profile;
 
@@ -22,7 +22,7 @@ pub fn converse<H: Host>(
     host: &mut H,
     profile: &Profile,
     client: &mut Client,
-) -> Result<(), SessionFault>
+) -> Result<(), Fault<SessionFault>>
     requires sound { IsProfile profile.now }
     requires next { client.old.next ≤ 2000000000 }
     ensures { DidIn to_link (Converses profile.now client.old) (H.state host.old) (H.state host.new) (outcome client.new result) }
@@ -32,7 +32,7 @@ pub fn converse<H: Host>(
     ask_all(alloc, profile, client, &mut asks, &mut out)?;
     match send_calls(host, &out) {
         Ok(()) => hear_all(alloc, host, profile, client, &mut asks, &mut out),
-        Err(_) => Err(SessionFault::LinkFault),
+        Err(_) => Err(Fault::Refused(SessionFault::LinkFault)),
     }
 }
 
@@ -44,7 +44,7 @@ fn hear_all<H: Host>(
     client: &mut Client,
     asks: &mut Asks,
     out: &mut Bytes,
-) -> Result<(), SessionFault>
+) -> Result<(), Fault<SessionFault>>
     requires sound { IsProfile profile.now }
     requires next { client.old.next ≤ 2000000000 + MAX_ASKS }
     ensures { DidIn to_link (Loops (HearsOn profile.now) (client.old, 0)) (H.state host.old) (H.state host.new) (outcome client.new result) }
@@ -56,7 +56,7 @@ fn hear_all<H: Host>(
         hear_next(alloc, host, profile, client, asks, out)?;
     }
     if client.asking() {
-        return Err(SessionFault::TooManyFrames);
+        return Err(Fault::Refused(SessionFault::TooManyFrames));
     }
     Ok(())
 }
@@ -69,7 +69,7 @@ fn hear_next<H: Host>(
     client: &mut Client,
     asks: &mut Asks,
     out: &mut Bytes,
-) -> Result<(), SessionFault>
+) -> Result<(), Fault<SessionFault>>
     requires sound { IsProfile profile.now }
     requires next { client.old.next ≤ 2147483582 }
     requires asking { is_one_asking client.old ≡ true }
@@ -78,9 +78,9 @@ fn hear_next<H: Host>(
 {
     match take_packet(alloc, host, Slot::Link)? {
         Packet::Whole(bytes) => hear_bytes(alloc, host, profile, client, &bytes, asks, out),
-        Packet::None => Err(SessionFault::Packet(PacketCause::Ended { had: 0 })),
-        Packet::Wrong(cause) => Err(SessionFault::Packet(cause)),
-        Packet::Broken => Err(SessionFault::LinkFault),
+        Packet::None => Err(Fault::Refused(SessionFault::Packet(PacketCause::Ended { had: 0 }))),
+        Packet::Wrong(cause) => Err(Fault::Refused(SessionFault::Packet(cause))),
+        Packet::Broken => Err(Fault::Refused(SessionFault::LinkFault)),
     }
 }
 
@@ -93,7 +93,7 @@ fn hear_bytes<H: Host>(
     packet: &[u8],
     asks: &mut Asks,
     out: &mut Bytes,
-) -> Result<(), SessionFault>
+) -> Result<(), Fault<SessionFault>>
     requires sound { IsProfile profile.now }
     requires next { client.old.next ≤ 2147483582 }
     requires asking { is_one_asking client.old ≡ true }
@@ -103,6 +103,6 @@ fn hear_bytes<H: Host>(
     hear_packet(alloc, profile, client, packet, asks, out)?;
     match send_calls(host, out) {
         Ok(()) => Ok(()),
-        Err(_) => Err(SessionFault::LinkFault),
+        Err(_) => Err(Fault::Refused(SessionFault::LinkFault)),
     }
 }

@@ -4,8 +4,8 @@ ghost use Rattle.box_client.specs.States.{ClientState};
 ghost use Rattle.outside.specs.Runs.{answered};
 ghost use Rattle.outside.specs.Begun.{Did, DidIn, to_link};
 ghost use Rattle.session_commands.specs.Client.{client_line};
-ghost use Rattle.session_rooms.specs.Client.{Leaves, after_create};
-ghost use Rattle.session_rooms.specs.inner.Ends.{TellsEnd};
+ghost use Rattle.session_commands.specs.SessionEnds.{session_line};
+ghost use Rattle.session_rooms.specs.Client.{Leaves, after_create, ends_by};
 
 use box_client::Client;
 use outside::{Host, Status, Stop, print, tell, write_out};
@@ -48,7 +48,7 @@ pub fn tell_session<H: Host>(
     host: &mut H,
     fault: SessionFault,
 ) -> Result<Status, AllocError>
-    ensures { TellsEnd fault (H.state host.old) (H.state host.new) (answered result) }
+    ensures { DidIn to_link (ends_by (session_line fault)) (H.state host.old) (H.state host.new) (answered result) }
 {
     match session_stop(alloc, fault) {
         Stop::Peer(line) => Ok(tell(host, &line, Status::PeerFault)),

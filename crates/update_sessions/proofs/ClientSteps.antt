@@ -20,10 +20,10 @@ use Rattle.wire_profile.specs.Indexes.{ProfileView}
 use Rattle.box_wire.specs.Framing.{WireRefused}
 use Rattle.box_wire.specs.Kinds.{frames}
 use Rattle.update_sessions.specs.declared.fault.SessionFault.{SessionFault}
-use Rattle.update_sessions.specs.declared.fault.SessionFault.TheVariants.{Packet, Wire, Client, TooManyFrames, LinkFault, Memory}
+use Rattle.update_sessions.specs.declared.fault.SessionFault.TheVariants.{Packet, Wire, Client, TooManyFrames, LinkFault}
 use Rattle.update_sessions.specs.declared.fault.TheConstants.{MAX_FRAMES}
 use Rattle.update_sessions.specs.Exchanges.{Exchanged}
-use Rattle.update_sessions.specs.Faults.{of_client}
+use Rattle.update_sessions.specs.Faults.{fault_as, of_client}
 use Rattle.update_sessions.specs.Heard.{HearsOn, RefusedFrame, StillAsks}
 use Rattle.update_sessions.specs.Hearing.{IsTaken, cause_in, client_side, hears}
 use Rattle.update_sessions.specs.Links.{OverLink}
@@ -61,7 +61,6 @@ module _ (p : ProfileView) where
   none_by c bytes after (Client f) h = absurd h
   none_by c bytes after TooManyFrames h = h
   none_by c bytes after LinkFault h = ([], (omega arith, cut_none (client_side p) c c bytes refl))
-  none_by c bytes after Memory h = ([], (omega arith, cut_none (client_side p) c c bytes refl))
 
   if_none : (c : ClientState) (l0 l1 : Option (List ℕ)) (fault : SessionFault) → IfSome l0 (λ bytes. Receives (MeansFrame p) (WireRefused p frames) bytes l1 (Err fault)) → IfSome l0 (λ bytes. HearsNone p c bytes [] c fault)
   if_none c None l1 fault h = tt
@@ -72,18 +71,18 @@ module _ (p : ProfileView) where
   next_none c l0 w0 l1 w1 fault h w = over_same l0 w0 w1 (λ bytes out. HearsNone p c bytes out c fault) w (if_none c l0 l1 fault h)
 
   -- a frame was received, and is refused
-  refused_one : (c d : ClientState) (f : Frame) (e : Fault ClientFault) (bytes rest : List ℕ) → ComesFirst (MeansFrame p) f bytes rest → HearsFrame c f (Err e) d → HearsNone p c bytes [] d (of_client e)
+  refused_one : (c d : ClientState) (f : Frame) (e : Fault ClientFault) (bytes rest : List ℕ) → ComesFirst (MeansFrame p) f bytes rest → HearsFrame c f (Err e) d → HearsNone p c bytes [] d (fault_as (of_client e))
   refused_one c d f (fault.Refused cause) bytes rest comes h = (f, (refl, h.1), record { rest = rest; comes = comes; refuses = h.0 })
   refused_one c d f fault.Memory bytes rest comes h = ([], (omega arith, cut_none (client_side p) c d bytes h))
 
   if_refused : (c d : ClientState) (f : Frame) (e : Fault ClientFault) (l0 l1 : Option (List ℕ)) → IfSome l0 (λ bytes. Receives (MeansFrame p) (WireRefused p frames) bytes l1 (Ok (Some f))) → HearsFrame c f (Err e) d
-      → IfSome l0 (λ bytes. HearsNone p c bytes [] d (of_client e))
+      → IfSome l0 (λ bytes. HearsNone p c bytes [] d (fault_as (of_client e)))
   if_refused c d f e None l1 r h = tt
   if_refused c d f e (Some bytes) l1 r h = refused_one c d f e bytes r.0 r.1 h
 
   pub next_refused : (c d : ClientState) (f : Frame) (e : Fault ClientFault) (l0 w0 l1 w1 : Option (List ℕ)) → IfSome l0 (λ bytes. Receives (MeansFrame p) (WireRefused p frames) bytes l1 (Ok (Some f))) → w0 ≡ w1 → HearsFrame c f (Err e) d
-      → HearsNext p c l0 w0 l1 w1 d (Err (of_client e))
-  next_refused c d f e l0 w0 l1 w1 r w h = over_same l0 w0 w1 (λ bytes out. HearsNone p c bytes out d (of_client e)) w (if_refused c d f e l0 l1 r h)
+      → HearsNext p c l0 w0 l1 w1 d (Err (fault_as (of_client e)))
+  next_refused c d f e l0 w0 l1 w1 r w h = over_same l0 w0 w1 (λ bytes out. HearsNone p c bytes out d (fault_as (of_client e))) w (if_refused c d f e l0 l1 r h)
 
   -- a frame was received and taken, and then
   module _ (c d e : ClientState) (f : Frame) (out : List ℕ) (asking : is_one_asking c ≡ true) (heard : HearsFrame c f (Ok tt) d) (asks : e ≡ (ticks d).client) where
@@ -100,7 +99,7 @@ module _ (p : ProfileView) where
     after = ends
 
     -- memory ran out
-    pub next_kept_off : (l0 w0 l1 w1 : Option (List ℕ)) → IfSome l0 (λ bytes. Receives (MeansFrame p) (WireRefused p frames) bytes l1 (Ok (Some f))) → w0 ≡ w1 → HearsNext p c l0 w0 l1 w1 e (Err Memory)
+    pub next_kept_off : (l0 w0 l1 w1 : Option (List ℕ)) → IfSome l0 (λ bytes. Receives (MeansFrame p) (WireRefused p frames) bytes l1 (Ok (Some f))) → w0 ≡ w1 → HearsNext p c l0 w0 l1 w1 e (Err LinkFault)
     next_kept_off l0 w0 l1 w1 r w = over_as l0 w0 w1 (λ bytes y. BreaksOff (client_side p) c bytes y e (f ∷ [])) (λ bytes y. (fs : List Frame) × BreaksOff (client_side p) c bytes y e fs) (λ bytes y h. (f ∷ [], h)) (step_kept (client_side p) (WireRefused p frames) c e f out takes l0 w0 l1 w1 r w ends)
 
     -- the link failed
@@ -131,8 +130,6 @@ module _ (p : ProfileView) where
       (fs, h.0 ∷ [], (mid, h.0, still c u d n bytes mid x y fs lt asking ex len h.1, subst (λ (s : ClientState). RefusedFrame p s mid h.0 f) (sym h.1.1) h.2, refl))
   stopped c u d n bytes mid x y fs TooManyFrames lt asking ex len h = absurd h
   stopped c u d n bytes mid x y fs LinkFault lt asking ex len h =
-      (fs ++ h.0, [], (record { first = fs; last = h.0; all = refl; few = omega (arith, len, lt); one = h.1.0; between = u; rest = mid; wrote = x; part = y; out_is = refl; exchanged = ex; cut = h.1.1 }, refl))
-  stopped c u d n bytes mid x y fs Memory lt asking ex len h =
       (fs ++ h.0, [], (record { first = fs; last = h.0; all = refl; few = omega (arith, len, lt); one = h.1.0; between = u; rest = mid; wrote = x; part = y; out_is = refl; exchanged = ex; cut = h.1.1 }, refl))
 
   pub hears_stopped : (c u d : ClientState) (n : ℕ) (l0 w0 l1 w1 l2 w2 : Option (List ℕ)) (fault : SessionFault) → n < MAX_FRAMES → is_one_asking u ≡ true → SoMany (client_side p) c n l0 w0 l1 w1 u → HearsNext p u l1 w1 l2 w2 d (Err fault)

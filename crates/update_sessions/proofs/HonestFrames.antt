@@ -1,5 +1,5 @@
 -- Sessions of clients: how they begin, and what holds where the frames are an honest server's.
-use Rattle.std.proofs.Common.{◌≡◌, inl, inr, Bool, ℕ, ◌+◌, ◌≤◌, List, [], ◌∷◌, ◌++◌, length, Option, Some, None, Result, Ok, Err, refl, sym, ap, ◌∙◌, subst, append-nil, length-append, arith}
+use Rattle.std.proofs.Common.{◌≡◌, Bool, ℕ, ◌+◌, ◌≤◌, List, [], ◌∷◌, ◌++◌, length, Option, Some, None, Result, Ok, Err, refl, sym, ap, ◌∙◌, subst, append-nil, length-append, arith}
 use Rattle.std.specs.Prelude.{IsSome, IsTrue, IfSome}
 use Rattle.std.specs.Io.KnownBytes.{Appends}
 use Rattle.std.proofs.KnownBytes.{Appends-nil, Appends-trans}
@@ -21,9 +21,9 @@ use Rattle.box_world.proofs.Streams as streams
 use Rattle.box_world.proofs.Histories as histories
 use Rattle.wire_profile.specs.Indexes.{ProfileView}
 use Rattle.update_sessions.specs.declared.fault.SessionFault.{SessionFault}
-use Rattle.update_sessions.specs.declared.fault.SessionFault.TheVariants.{Packet, Wire, Client, TooManyFrames, LinkFault, Memory}
+use Rattle.update_sessions.specs.declared.fault.SessionFault.TheVariants.{Packet, Wire, Client, TooManyFrames, LinkFault}
 use Rattle.update_sessions.specs.Exchanges.{MaySend, after_all}
-use Rattle.update_sessions.specs.Heard.{Hears, HearsOn, IsBrokenOff, MayAsk, broke_off, asked}
+use Rattle.update_sessions.specs.Heard.{Hears, HearsOn, MayAsk, broke_off, asked}
 use Rattle.update_sessions.specs.Hearing.{cause_in, cause_of, client_side, hears}
 use Rattle.update_sessions.specs.Honest.{AnswersAll, HearsHonestly, IsNoClientFault, StaysHonest, StaysShort, told, told_all}
 use Rattle.update_sessions.specs.Links.{OverLink, LinkNeverFails}
@@ -67,15 +67,10 @@ module _ (p : ProfileView) where
       record { ends = h.2.exchanged.ends; clear = λ a. never_refused past d h.1 f (subst (λ (l : List Frame). AgreesThrough past d (told_all l)) h.4 a) h.3.refuses }
   on_through past c d bytes out (Err TooManyFrames) fs last h = record { ends = h.1.ends; clear = λ a. tt }
   on_through past c d bytes out (Err LinkFault) fs last h = record { ends = broken_ends (client_side p) c d bytes out fs h.0; clear = λ a. tt }
-  on_through past c d bytes out (Err Memory) fs last h = record { ends = broken_ends (client_side p) c d bytes out fs h.0; clear = λ a. tt }
-
-  no_fault : (result : Result ℕ SessionFault) → IsBrokenOff result → IsNoClientFault result
-  no_fault result (inl e) = subst (λ (r : Result ℕ SessionFault). IsNoClientFault r) (sym e) tt
-  no_fault result (inr e) = subst (λ (r : Result ℕ SessionFault). IsNoClientFault r) (sym e) tt
 
   through_of : (past : Past) (c d : ClientState) (bytes out : List ℕ) (result : Result ℕ SessionFault) (fs last : List Frame) → Hears p c bytes out d result fs last → Through past (begun c) d fs last result
   through_of past c d bytes out result fs last (broke_off why wrote is none nothing) =
-      record { ends = is ∙ ap (λ (l : List Frame). after_all (client_side p) (begun c) l) (sym none); clear = λ a. no_fault result why }
+      record { ends = is ∙ ap (λ (l : List Frame). after_all (client_side p) (begun c) l) (sym none); clear = λ a. subst (λ (r : Result ℕ SessionFault). IsNoClientFault r) (sym why) tt }
   through_of past c d bytes out result fs last (asked first more packed parts h) = on_through past (begun c) d bytes more result fs last h
 
   stays_honest : (c d : ClientState) (bytes out : List ℕ) (result : Result ℕ SessionFault) (fs last : List Frame) → Hears p c bytes out d result fs last → StaysHonest c (fs ++ last) d result
@@ -112,10 +107,10 @@ module _ (p : ProfileView) where
   -- ---- how a session begins
 
   -- memory ran out before anything was written
-  pub begins_kept : (c d : ClientState) (l0 w0 : Option (List ℕ)) → d ≡ begun c → OverLink l0 w0 w0 (λ bytes out. HearsHonestly p c bytes out d (Err Memory))
+  pub begins_kept : (c d : ClientState) (l0 w0 : Option (List ℕ)) → d ≡ begun c → OverLink l0 w0 w0 (λ bytes out. HearsHonestly p c bytes out d (Err LinkFault))
   begins_kept c d None w0 is = tt
   begins_kept c d (Some bytes) None is = tt
-  begins_kept c d (Some bytes) (Some before) is = ([], Appends-nil (Some before), honestly c d bytes [] (Err Memory) [] [] (broke_off (inr refl) (partly_none (SpellsCall p) (ticks (wakes c)).asks) is refl refl))
+  begins_kept c d (Some bytes) (Some before) is = ([], Appends-nil (Some before), honestly c d bytes [] (Err LinkFault) [] [] (broke_off refl (partly_none (SpellsCall p) (ticks (wakes c)).asks) is refl refl))
 
   -- the link failed
   pub begins_cut : (c d : ClientState) (l0 w0 w1 : Option (List ℕ)) (first : List ℕ) → d ≡ begun c → Packed (SpellsCall p) (ticks (wakes c)).asks first → AppendsPrefix w0 w1 first
@@ -123,7 +118,7 @@ module _ (p : ProfileView) where
   begins_cut c d None w0 w1 first is packed wrote = tt
   begins_cut c d (Some bytes) None w1 first is packed wrote = tt
   begins_cut c d (Some bytes) (Some before) w1 first is packed (prefix, rest, whole, wrote) =
-      (prefix, wrote, honestly c d bytes prefix (Err LinkFault) [] [] (broke_off (inl refl) (partly_of (SpellsCall p) (ticks (wakes c)).asks first prefix rest packed whole) is refl refl))
+      (prefix, wrote, honestly c d bytes prefix (Err LinkFault) [] [] (broke_off refl (partly_of (SpellsCall p) (ticks (wakes c)).asks first prefix rest packed whole) is refl refl))
 
   -- all was asked, and then frames were heard
   pub begins : (c d : ClientState) (l0 w0 l1 w1 w2 : Option (List ℕ)) (first : List ℕ) (result : Result ℕ SessionFault) → Packed (SpellsCall p) (ticks (wakes c)).asks first → l0 ≡ l1 → Appends w0 w1 first

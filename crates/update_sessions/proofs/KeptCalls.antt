@@ -17,7 +17,7 @@ use Rattle.box_server.specs.Rebuilding.{Rebuilds}
 use Rattle.box_server.proofs.Rebuilt.{date_aside, one_more, one_server}
 use Rattle.wire_profile.specs.Indexes.{ProfileView}
 use Rattle.update_sessions.specs.declared.fault.SessionFault.{SessionFault}
-use Rattle.update_sessions.specs.declared.fault.SessionFault.TheVariants.{Packet, Wire, Client, TooManyFrames, LinkFault, Memory}
+use Rattle.update_sessions.specs.declared.fault.SessionFault.TheVariants.{Packet, Wire, Client, TooManyFrames, LinkFault}
 use Rattle.update_sessions.specs.Exchanges.{after_all}
 use Rattle.update_sessions.specs.Kept.{kept_for, kept_in}
 use Rattle.update_sessions.specs.Served.{Serves}
@@ -66,7 +66,6 @@ sessions_keep_dates p s bytes out t (Err (Wire fault)) cs h = date_of p s t cs h
 sessions_keep_dates p s bytes out t (Err (Client fault)) cs h = absurd h
 sessions_keep_dates p s bytes out t (Err TooManyFrames) cs h = date_of p s t cs h.1.ends
 sessions_keep_dates p s bytes out t (Err LinkFault) cs h = date_of p s t cs (broken_ends (server_side p) s t bytes out cs h)
-sessions_keep_dates p s bytes out t (Err Memory) cs h = date_of p s t cs (broken_ends (server_side p) s t bytes out cs h)
 
 -- ---- entries
 

@@ -1,5 +1,5 @@
 -- How a message is received: a packet, and what its bytes mean.
-use Rattle.std.proofs.Common.{◌≡◌, Bool, ℕ, List, ◌++◌, length, true, false, Option, Some, None, Result, Ok, Err, refl, sym, ◌∙◌, subst}
+use Rattle.std.proofs.Common.{◌≡◌, ℕ, List, ◌++◌, length, true, false, Option, Some, None, Result, Ok, Err, refl, sym, ◌∙◌, subst}
 use Rattle.std.specs.Prelude.{IfSome}
 use Rattle.tl_base.specs.Packets.{IsPacketLength, ReadsPacket, PacketInto, packet}
 use Rattle.tl_base.specs.declared.packet.PacketFault.{PacketFault}
@@ -16,13 +16,16 @@ use Rattle.box_world.specs.Fitting.{IsHearable}
 use Rattle.box_world.proofs.ReadFrames.{frames_taken}
 use Rattle.update_sessions.specs.declared.fault.SessionFault.{SessionFault}
 use Rattle.update_sessions.specs.declared.fault.SessionFault.TheVariants.{LinkFault, Wire}
-use Rattle.update_sessions.specs.Faults.{of_packet, of_wire}
+use Rattle.update_sessions.specs.declared.storing.StoreSession.{StoreSession}
+use Rattle.update_sessions.specs.declared.storing.StoreSession.TheVariants.{Session}
+use Rattle.update_sessions.specs.Faults.{fault_as, of_packet, of_wire}
 use Rattle.update_sessions.specs.Packed.{MeansFrame}
 use Rattle.update_sessions.specs.Receiving.{Receives}
+use Rattle.update_sessions.specs.inner.StoreSteps.{of_session}
 
 module _ {M : Type 0} (MeansIt : M → List ℕ → Type 0) (Refused : List ℕ → WireFault → Type 0) where
   -- no packet comes
-  pub no_packet : (a b : Option (List ℕ)) (into : List ℕ) (fault : PacketFault) → IfSome a (λ bytes. ReadsPacket bytes b into (Err fault)) → PacketInto into (Err fault) → IfSome a (λ bytes. Receives {M = M} MeansIt Refused bytes b (Err (of_packet fault)))
+  pub no_packet : (a b : Option (List ℕ)) (into : List ℕ) (fault : PacketFault) → IfSome a (λ bytes. ReadsPacket bytes b into (Err fault)) → PacketInto into (Err fault) → IfSome a (λ bytes. Receives {M = M} MeansIt Refused bytes b (Err (fault_as (of_packet fault))))
   no_packet None b into fault h g = tt
   no_packet (Some x) None into (packets.Refused (BadLength n)) h g = absurd h
   no_packet (Some x) (Some y) into (packets.Refused (BadLength n)) h g = (y, h, g.1)
@@ -35,13 +38,13 @@ module _ {M : Type 0} (MeansIt : M → List ℕ → Type 0) (Refused : List ℕ 
   no_more None b into h = tt
   no_more (Some x) b into h = h.0
 
-  -- a packet is refused; a fault of memory is one of a session
-  refused_by : (x y into : List ℕ) (e : Fault WireFault) → IsPacketLength (length into) → x ≡ packet into ++ y → HasCause (Refused into) e → Receives {M = M} MeansIt Refused x (Some y) (Err (of_wire e))
+  -- a packet is refused, or memory runs out
+  refused_by : (x y into : List ℕ) (e : Fault WireFault) → IsPacketLength (length into) → x ≡ packet into ++ y → HasCause (Refused into) e → Receives {M = M} MeansIt Refused x (Some y) (Err (fault_as (of_wire e)))
   refused_by x y into (fault.Refused cause) fits is r = record { body = into; rest = y; fits = fits; parts = is; refused = r }
   refused_by x y into fault.Memory fits is r = tt
 
   pub no_message : (a b : Option (List ℕ)) (into : List ℕ) (e : Fault WireFault) → IfSome a (λ bytes. ReadsPacket bytes b into (Ok true)) → IsPacketLength (length into) → HasCause (Refused into) e
-      → IfSome a (λ bytes. Receives {M = M} MeansIt Refused bytes b (Err (of_wire e)))
+      → IfSome a (λ bytes. Receives {M = M} MeansIt Refused bytes b (Err (fault_as (of_wire e))))
   no_message None b into e h fits r = tt
   no_message (Some x) None into e h fits r = absurd h
   no_message (Some x) (Some y) into e h fits r = refused_by x y into e fits h r
@@ -57,28 +60,26 @@ module _ {M : Type 0} (MeansIt : M → List ℕ → Type 0) (Refused : List ℕ 
   refused_message (Some x) (Some y) into fault h fits r = record { body = into; rest = y; fits = fits; parts = h; refused = r }
 
   -- a packet was read; of its bytes this is said
-  module _ (a b : Option (List ℕ)) (into slice : List ℕ) (whole : Bool) (is : whole ≡ true) (read : IfSome a (λ bytes. ReadsPacket bytes b into (Ok whole))) (fits : PacketInto into (Ok whole)) (same : slice ≡ into) where
-    was_read : IfSome a (λ bytes. ReadsPacket bytes b into (Ok true))
-    was_read = subst (λ (v : Bool). IfSome a (λ bytes. ReadsPacket bytes b into (Ok v))) is read
-
-    is_fit : IsPacketLength (length into)
-    is_fit = subst (λ (v : Bool). PacketInto into (Ok v)) is fits
-
+  module _ (a b : Option (List ℕ)) (into slice : List ℕ) (read : IfSome a (λ bytes. ReadsPacket bytes b into (Ok true))) (fits : IsPacketLength (length into)) (same : slice ≡ into) where
     pub meant : (m : M) → MeansIt m slice → IfSome a (λ bytes. Receives MeansIt Refused bytes b (Ok (Some m)))
-    meant m means = message a b into m was_read is_fit (subst (MeansIt m) same means)
+    meant m means = message a b into m read fits (subst (MeansIt m) same means)
 
-    pub refused : (e : Fault WireFault) → HasCause (Refused slice) e → IfSome a (λ bytes. Receives {M = M} MeansIt Refused bytes b (Err (of_wire e)))
-    refused e told = no_message a b into e was_read is_fit (subst (λ (l : List ℕ). HasCause (Refused l) e) same told)
+    pub refused : (e : Fault WireFault) → HasCause (Refused slice) e → IfSome a (λ bytes. Receives {M = M} MeansIt Refused bytes b (Err (fault_as (of_wire e))))
+    refused e told = no_message a b into e read fits (subst (λ (l : List ℕ). HasCause (Refused l) e) same told)
 
 -- a link fault is one of the packet
-pub packet_failed : (fault : PacketFault) → of_packet fault ≡ LinkFault → fault ≡ packets.ReadFault
+packet_failed : (x : PacketFault) → of_packet x ≡ fault.Refused LinkFault → x ≡ packets.ReadFault
 packet_failed (packets.Refused cause) e = absurd cc
 packet_failed packets.ReadFault e = refl
 packet_failed packets.Memory e = absurd cc
 
-pub packet_link_failed : {A : Type 0} (r : Result A PacketFault) (x : PacketFault) (y : SessionFault) → r ≡ Err x → y ≡ of_packet x → y ≡ LinkFault → r ≡ Err packets.ReadFault
-packet_link_failed {A} r x y is of failed =
-    let fault : x ≡ packets.ReadFault = packet_failed x (sym of ∙ failed) in
+stores_link : (e : Fault SessionFault) → of_session e ≡ Session LinkFault → e ≡ fault.Refused LinkFault
+stores_link (fault.Refused f) is = cc
+stores_link fault.Memory is = absurd cc
+
+pub packet_link_failed : {A : Type 0} (r : Result A PacketFault) (x : PacketFault) (y : Fault SessionFault) (z : StoreSession) → r ≡ Err x → y ≡ of_packet x → z ≡ of_session y → z ≡ Session LinkFault → r ≡ Err packets.ReadFault
+packet_link_failed {A} r x y z is of so failed =
+    let same : x ≡ packets.ReadFault = packet_failed x (sym of ∙ stores_link y (sym so ∙ failed)) in
     cc
 
 -- a frame that was read is one that a client takes

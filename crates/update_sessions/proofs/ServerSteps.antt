@@ -12,7 +12,7 @@ use Rattle.wire_profile.specs.Indexes.{ProfileView}
 use Rattle.box_wire.specs.Framing.{WireRefused}
 use Rattle.box_wire.specs.Kinds.{calls}
 use Rattle.update_sessions.specs.declared.fault.SessionFault.{SessionFault}
-use Rattle.update_sessions.specs.declared.fault.SessionFault.TheVariants.{Packet, Wire, Client, TooManyFrames, LinkFault, Memory}
+use Rattle.update_sessions.specs.declared.fault.SessionFault.TheVariants.{Packet, Wire, Client, TooManyFrames, LinkFault}
 use Rattle.update_sessions.specs.declared.fault.TheConstants.{MAX_FRAMES}
 use Rattle.update_sessions.specs.declared.storing.StoreSession.{StoreSession}
 use Rattle.update_sessions.specs.declared.storing.StoreSession.TheVariants.{Session}
@@ -62,7 +62,6 @@ module _ (p : ProfileView) where
   none_by s bytes after (Client f) h = h
   none_by s bytes after TooManyFrames h = h
   none_by s bytes after LinkFault h = (omega arith, cut_none (server_side p) s s bytes refl)
-  none_by s bytes after Memory h = (omega arith, cut_none (server_side p) s s bytes refl)
 
   if_none : (s : ServerState) (l0 l1 : Option (List ℕ)) (fault : SessionFault) → IfSome l0 (λ bytes. Receives (MeansCall p) (WireRefused p calls) bytes l1 (Err fault)) → IfSome l0 (λ bytes. ServesNone p s bytes [] s fault [])
   if_none s None l1 fault h = tt
@@ -84,7 +83,7 @@ module _ (p : ProfileView) where
       record { calls = []; link = (refl, over_same l0 w0 w1 (λ bytes out. Unmoved s out s × (bytes ≡ [])) w (if_ended s l0 l1 h)); appended = kept_still s e0 e1 same }
 
   -- there was no memory to take a call
-  pub next_short : (s : ServerState) (l0 w0 l1 w1 : Option (List ℕ)) (e0 e1 : Option (List Entry)) → w0 ≡ w1 → e1 ≡ e0 → StoresNext p s l0 w0 l1 w1 e0 e1 (ended s (Err Memory))
+  pub next_short : (s : ServerState) (l0 w0 l1 w1 : Option (List ℕ)) (e0 e1 : Option (List Entry)) → w0 ≡ w1 → e1 ≡ e0 → StoresNext p s l0 w0 l1 w1 e0 e1 (ended s (Err LinkFault))
   next_short s l0 w0 l1 w1 e0 e1 w same =
       record {
         calls = [];
@@ -109,7 +108,7 @@ module _ (p : ProfileView) where
     -- it was taken, and then
     module _ (t : ServerState) (is : t ≡ after_request s call.request) (more : e1 ≡ with_more (kept_for s call.request) e0) where
       -- there was no memory for its answer
-      pub next_dropped : StoresNext p s l0 w0 l1 w1 e0 e1 (ended t (Err Memory))
+      pub next_dropped : StoresNext p s l0 w0 l1 w1 e0 e1 (ended t (Err LinkFault))
       next_dropped = record { calls = call ∷ []; link = step_kept (server_side p) (WireRefused p calls) s t call [] tt l0 w0 l1 w1 r w is; appended = kept_call s call e0 e1 more }
 
       module _ (out : List ℕ) (l2 w2 : Option (List ℕ)) (packed : Packed (SpellsFrame p) (sent_for s call.number call.request) out) where
@@ -161,7 +160,6 @@ module _ (p : ProfileView) where
       stopped t (Client f) ds h = absurd h
       stopped t TooManyFrames ds h = absurd h
       stopped t LinkFault ds h = record { first = so.calls; last = ds; all = refl; few = few; one = h.0; between = u; rest = mid; wrote = x; part = y; out_is = refl; exchanged = ex; cut = h.1 }
-      stopped t Memory ds h = record { first = so.calls; last = ds; all = refl; few = few; one = h.0; between = u; rest = mid; wrote = x; part = y; out_is = refl; exchanged = ex; cut = h.1 }
 
       done : (t : ServerState) (ds : List Numbered) → ds ≡ [] → Unmoved u y t × (mid ≡ []) → Serves p s bytes (x ++ y) t (Ok n) (so.calls ++ ds)
       done t ds none h =

@@ -1,28 +1,19 @@
 -- What a server makes of one packet.
-use Rattle.std.proofs.Common.{◌≡◌, ℕ, ◌≤◌, List, ◌++◌, length, Option, Ok, Err, refl, subst}
+use Rattle.std.proofs.Common.{ℕ, ◌≤◌, List, ◌++◌, length, Option, Ok, subst}
 use Rattle.box_events.specs.declared.replies.Frame.{Frame}
 use Rattle.box_events.specs.declared.requests.Numbered.{Numbered}
 use Rattle.box_server.specs.Servers.{ServerState}
 use Rattle.box_server.specs.declared.entry.Entry.{Entry}
 use Rattle.box_server.specs.Keeping.{KeeperState, Keeps}
 use Rattle.box_server.proofs.Added.{keeps_as}
-use Rattle.wire_profile.specs.declared.wire_fault.WireFault.{WireFault}
 use Rattle.wire_profile.specs.Indexes.{ProfileView}
-use Rattle.box_wire.specs.Framing.{WireRefused}
-use Rattle.box_wire.specs.Kinds.{calls}
 use Rattle.update_sessions.specs.declared.answering.CallAnswer.{CallAnswer}
-use Rattle.update_sessions.specs.declared.fault.SessionFault.TheVariants.{Wire}
 use Rattle.update_sessions.specs.Kept.{kept_for}
 use Rattle.update_sessions.specs.Packed.{MeansCall, Packed, SpellsFrame}
-use Rattle.update_sessions.specs.declared.storing.StoreSession.TheVariants.{Session}
 use Rattle.update_sessions.specs.Turns.{AnswersPacket}
 use Rattle.update_sessions.specs.inner.StoreSteps.{Took, frames_in}
 
 module _ (p : ProfileView) (s : ServerState) (bytes out : List ℕ) (e0 e1 : Option (List Entry)) where
-  -- the bytes are no call
-  pub turn_unread : (cause : WireFault) → WireRefused p calls bytes cause → e1 ≡ e0 → AnswersPacket p s bytes out e0 e1 s (Err (Session (Wire cause)))
-  turn_unread cause r same = (r, refl, same)
-
   -- a call is taken, and then
   module _ (call : Numbered) (means : MeansCall p call bytes) (t : ServerState) (x : CallAnswer) (took : Took s call.number call.request e0 e1 t x) where
     -- all that is sent for it is there

@@ -11,7 +11,7 @@ use Rattle.wire_profile.specs.Indexes.{ProfileView}
 use Rattle.box_wire.specs.Kinds.{frames}
 use Rattle.box_wire.specs.Framing.{WireRefused}
 use Rattle.update_sessions.specs.declared.fault.SessionFault.{SessionFault}
-use Rattle.update_sessions.specs.declared.fault.SessionFault.TheVariants.{Packet, Wire, Client, TooManyFrames, LinkFault, Memory}
+use Rattle.update_sessions.specs.declared.fault.SessionFault.TheVariants.{Packet, Wire, Client, TooManyFrames, LinkFault}
 use Rattle.update_sessions.specs.declared.fault.TheConstants.{MAX_FRAMES}
 use Rattle.update_sessions.specs.Packed.{Packed, PartlyPacked, NoPacket, MeansFrame, SpellsCall}
 use Rattle.update_sessions.specs.Exchanges.{Exchanged, Broken, MaySend}
@@ -43,15 +43,10 @@ HearsOn p c bytes out d (Err (Wire fault)) fs last = (left : List ℕ) × StillA
 HearsOn p c bytes out d (Err (Client fault)) fs last = (left : List ℕ) × (f : Frame) × StillAsks p c bytes left out d fs × RefusedFrame p d left f fault × (last ≡ f ∷ [])
 HearsOn p c bytes out d (Err TooManyFrames) fs last = (left : List ℕ) × Exchanged (client_side p) c bytes left out d fs × (is_one_asking d ≡ true) × (length fs ≡ MAX_FRAMES) × (last ≡ [])
 HearsOn p c bytes out d (Err LinkFault) fs last = Broken (client_side p) c bytes out d fs × (last ≡ [])
-HearsOn p c bytes out d (Err Memory) fs last = Broken (client_side p) c bytes out d fs × (last ≡ [])
-
--- the link fails, or memory runs out
-abbrev pub IsBrokenOff : Result ℕ SessionFault → Type 0
-IsBrokenOff result = (result ≡ Err LinkFault) ⊎ (result ≡ Err Memory)
 
 -- A session: all is asked about, and then frames are heard; or it breaks off before the first is looked at.
 pub data Hears (p : ProfileView) (c : ClientState) (bytes out : List ℕ) (d : ClientState) (result : Result ℕ SessionFault) (fs last : List Frame) : Type 0 where
-  broke_off : IsBrokenOff result → PartlyPacked (SpellsCall p) (ticks (wakes c)).asks out → d ≡ begun c → fs ≡ [] → last ≡ [] → Hears p c bytes out d result fs last
+  broke_off : result ≡ Err LinkFault → PartlyPacked (SpellsCall p) (ticks (wakes c)).asks out → d ≡ begun c → fs ≡ [] → last ≡ [] → Hears p c bytes out d result fs last
   asked : (first more : List ℕ) → Packed (SpellsCall p) (ticks (wakes c)).asks first → out ≡ first ++ more → HearsOn p (begun c) bytes more d result fs last → Hears p c bytes out d result fs last
 
 -- what may be written: what is asked at first, and all that is asked after frames that come first

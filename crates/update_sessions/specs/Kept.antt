@@ -9,7 +9,7 @@ use Rattle.box_server.specs.Keeping.{with_more}
 use Rattle.box_server.specs.Rebuilding.{kept_of}
 use Rattle.wire_profile.specs.Indexes.{ProfileView}
 use Rattle.update_sessions.specs.declared.fault.SessionFault.{SessionFault}
-use Rattle.update_sessions.specs.declared.fault.SessionFault.TheVariants as fault
+use Rattle.update_sessions.specs.declared.fault.SessionFault.TheVariants.{LinkFault}
 use Rattle.update_sessions.specs.declared.fault.TheConstants.{MAX_FRAMES}
 use Rattle.update_sessions.specs.declared.storing.StoreSession.{StoreSession}
 use Rattle.update_sessions.specs.declared.storing.StoreSession.TheVariants.{Session, Memory, Failed}
@@ -40,7 +40,7 @@ pub data StoreEnd (T : Type 0) : Type 0 where
 abbrev pub end_of : {T : Type 0} → ServerState → Result T StoreSession → StoreEnd T
 end_of t (Ok x) = ended t (Ok x)
 end_of t (Err (Session f)) = ended t (Err f)
-end_of t (Err Memory) = ended t (Err fault.Memory)
+end_of t (Err Memory) = ended t (Err LinkFault)
 end_of t (Err Failed) = keeper_failed t
 
 -- The keeper failed at the call after these, a post that would be kept. All that is sent for these was written, and nothing else.

@@ -3,7 +3,7 @@ use Rattle.std.specs.Prelude.{◌≡◌, ℕ, List, [], ◌++◌, length, Option
 use Rattle.tl_base.specs.Packets.{IsPacketLength, packet}
 use Rattle.wire_profile.specs.declared.wire_fault.WireFault.{WireFault}
 use Rattle.update_sessions.specs.declared.fault.SessionFault.{SessionFault}
-use Rattle.update_sessions.specs.declared.fault.SessionFault.TheVariants.{Packet, Wire, Client, TooManyFrames, LinkFault, Memory}
+use Rattle.update_sessions.specs.declared.fault.SessionFault.TheVariants.{Packet, Wire, Client, TooManyFrames, LinkFault}
 use Rattle.update_sessions.specs.Packed.{NoPacket}
 
 -- a packet is refused for this cause, and this is left after it
@@ -30,4 +30,3 @@ Receives Means Refused bytes after (Err (Wire fault)) = RefusedPacket Refused by
 Receives Means Refused bytes after (Err (Client fault)) = ⊥
 Receives Means Refused bytes after (Err TooManyFrames) = ⊥
 Receives Means Refused bytes after (Err LinkFault) = Unit {0}
-Receives Means Refused bytes after (Err Memory) = Unit {0}

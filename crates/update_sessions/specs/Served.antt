@@ -6,7 +6,7 @@ use Rattle.wire_profile.specs.Indexes.{ProfileView}
 use Rattle.box_wire.specs.Kinds.{calls}
 use Rattle.box_wire.specs.Framing.{WireRefused}
 use Rattle.update_sessions.specs.declared.fault.SessionFault.{SessionFault}
-use Rattle.update_sessions.specs.declared.fault.SessionFault.TheVariants.{Packet, Wire, Client, TooManyFrames, LinkFault, Memory}
+use Rattle.update_sessions.specs.declared.fault.SessionFault.TheVariants.{Packet, Wire, Client, TooManyFrames, LinkFault}
 use Rattle.update_sessions.specs.declared.fault.TheConstants.{MAX_FRAMES}
 use Rattle.update_sessions.specs.Packed.{NoPacket}
 use Rattle.update_sessions.specs.Exchanges.{Exchanged, Broken}
@@ -22,4 +22,3 @@ Serves p s bytes out t (Err (Wire fault)) cs = (left : List ℕ) × Exchanged (s
 Serves p s bytes out t (Err (Client fault)) cs = ⊥
 Serves p s bytes out t (Err TooManyFrames) cs = (left : List ℕ) × Exchanged (server_side p) s bytes left out t cs × (length cs ≡ MAX_FRAMES)
 Serves p s bytes out t (Err LinkFault) cs = Broken (server_side p) s bytes out t cs
-Serves p s bytes out t (Err Memory) cs = Broken (server_side p) s bytes out t cs

@@ -7,11 +7,13 @@ use Rattle.box_server.specs.declared.entry.Entry.{Entry}
 use Rattle.box_server.specs.Keeping.{with_more}
 use Rattle.box_client.specs.States.{ClientState}
 use Rattle.box_client.specs.declared.fault.ClientFault.{ClientFault}
+use Rattle.tl_base.specs.declared.fault.Fault.{Fault}
+use Rattle.tl_base.specs.declared.fault.Fault.TheVariants as fault
 use Rattle.wire_profile.specs.Indexes.{ProfileView}
 use Rattle.box_wire.specs.Kinds.{calls, frames}
 use Rattle.box_wire.specs.Framing.{WireRefused}
 use Rattle.update_sessions.specs.declared.fault.SessionFault.{SessionFault}
-use Rattle.update_sessions.specs.declared.fault.SessionFault.TheVariants.{Packet, Wire, Client, TooManyFrames, LinkFault, Memory}
+use Rattle.update_sessions.specs.declared.fault.SessionFault.TheVariants.{Packet, Wire, Client, TooManyFrames, LinkFault}
 use Rattle.update_sessions.specs.declared.storing.StoreSession.{StoreSession}
 use Rattle.update_sessions.specs.declared.storing.StoreSession.TheVariants as store
 use Rattle.update_sessions.specs.Packed.{Packed, MeansCall, MeansFrame}
@@ -38,14 +40,14 @@ pub record RefusesFrame (p : ProfileView) (c : ClientState) (bytes : List ℕ) (
 
 -- What a client that asks makes of a packet's bytes: it takes their frame, and sends what is due then; or why it takes none, which leaves it as it was. Out of
 -- memory is free.
-abbrev pub HearsPacket : ProfileView → ClientState → List ℕ → List ℕ → ClientState → Result (Unit {0}) SessionFault → Type 0
+abbrev pub HearsPacket : ProfileView → ClientState → List ℕ → List ℕ → ClientState → Result (Unit {0}) (Fault SessionFault) → Type 0
 HearsPacket p c bytes out d (Ok u) = Turned (client_side p) c bytes out d
-HearsPacket p c bytes out d (Err (Wire fault)) = WireRefused p frames bytes fault × (d ≡ c)
-HearsPacket p c bytes out d (Err (Client fault)) = RefusesFrame p c bytes fault × (d ≡ c)
-HearsPacket p c bytes out d (Err (Packet fault)) = ⊥
-HearsPacket p c bytes out d (Err TooManyFrames) = ⊥
-HearsPacket p c bytes out d (Err LinkFault) = ⊥
-HearsPacket p c bytes out d (Err Memory) = Unit {0}
+HearsPacket p c bytes out d (Err (fault.Refused (Wire f))) = WireRefused p frames bytes f × (d ≡ c)
+HearsPacket p c bytes out d (Err (fault.Refused (Client f))) = RefusesFrame p c bytes f × (d ≡ c)
+HearsPacket p c bytes out d (Err (fault.Refused (Packet f))) = ⊥
+HearsPacket p c bytes out d (Err (fault.Refused TooManyFrames)) = ⊥
+HearsPacket p c bytes out d (Err (fault.Refused LinkFault)) = ⊥
+HearsPacket p c bytes out d (Err fault.Memory) = Unit {0}
 
 -- ---- a server whose posts are kept
 
@@ -73,6 +75,5 @@ AnswersPacket p s bytes out entries now_entries t (Err (store.Session (Client fa
 AnswersPacket p s bytes out entries now_entries t (Err (store.Session (Packet fault))) = ⊥
 AnswersPacket p s bytes out entries now_entries t (Err (store.Session TooManyFrames)) = ⊥
 AnswersPacket p s bytes out entries now_entries t (Err (store.Session LinkFault)) = ⊥
-AnswersPacket p s bytes out entries now_entries t (Err (store.Session Memory)) = ⊥
 AnswersPacket p s bytes out entries now_entries t (Err store.Memory) = ((t ≡ s) × (now_entries ≡ entries)) ⊎ TakesUnsent p s bytes entries now_entries t
 AnswersPacket p s bytes out entries now_entries t (Err store.Failed) = LosesPost p s bytes entries now_entries t

@@ -8,13 +8,13 @@ ghost use Rattle.update_sessions.specs.Packed.{Packed, SpellsCall};
 ghost use Rattle.update_sessions.specs.Turns.{HearsPacket};
 ghost use Rattle.update_sessions.specs.inner.Steps.{HearsFrame};
 
-use crate::fault::SessionFault;
+use crate::fault::{SessionFault, of_client, of_wire};
 use crate::packing::put_calls;
 use box_client::{Client, ClientFault};
 use box_events::{Asks, Frame};
-use box_wire::{Fault, read_frame};
+use box_wire::read_frame;
 use std::alloc::Global;
-use tl_base::{Bytes, Memory};
+use tl_base::{Bytes, Fault, Memory};
 use wire_profile::Profile;
 
 /// A frame comes.
@@ -78,14 +78,20 @@ pub fn hear_packet(
     packet: &[u8],
     asks: &mut Asks,
     out: &mut Bytes,
-) -> Result<(), SessionFault>
+) -> Result<(), Fault<SessionFault>>
     requires next { client.old.next ≤ 2147483582 }
     requires asking { is_one_asking client.old ≡ true }
     ensures hears { HearsPacket profile.now client.old packet.now out.new client.new result }
     ensures next { client.new.next ≤ client.old.next + MAX_ASKS }
 {
-    let frame = read_frame(alloc, profile, packet)?;
-    hear_frame(alloc, client, frame)?;
+    let frame = match read_frame(alloc, profile, packet) {
+        Ok(frame) => frame,
+        Err(fault) => return Err(of_wire(fault)),
+    };
+    match hear_frame(alloc, client, frame) {
+        Ok(()) => {}
+        Err(fault) => return Err(of_client(fault)),
+    }
     put_asks(alloc, profile, client, asks, out)?;
     Ok(())
 }

@@ -1,9 +1,10 @@
 //! Why a session ends before its time.
+ghost use Rattle.std.specs.Prelude.{◌≡◌};
+ghost use Rattle.update_sessions.specs.Faults.{of_client, of_packet, of_wire};
+
 use box_client::ClientFault;
-use box_wire::Fault;
-use std::alloc::AllocError;
 use thiserror::Error;
-use tl_base::{PacketCause, PacketFault, WriteFault};
+use tl_base::{Fault, PacketCause, PacketFault};
 use wire_profile::WireFault;
 
 /// How many frames a session takes at most.
@@ -26,71 +27,35 @@ pub enum SessionFault {
     TooManyFrames,
     #[error("link fault")]
     LinkFault,
-    #[error("out of memory")]
-    Memory,
 }
 
-impl From<AllocError> for SessionFault {
-    ghost use Rattle.std.specs.Prelude.{◌≡◌};
-    ghost use Rattle.update_sessions.specs.declared.fault.SessionFault.TheVariants.{Memory};
-
-    ghost from_gives = { λ _ e. e ≡ Memory };
-
-    fn from(_e: AllocError) -> SessionFault {
-        SessionFault::Memory
+/// Why no packet was read, as a fault of the session.
+pub fn of_packet(fault: PacketFault) -> Fault<SessionFault>
+    ensures { result ≡ of_packet fault }
+{
+    match fault {
+        PacketFault::Refused(cause) => Fault::Refused(SessionFault::Packet(cause)),
+        PacketFault::ReadFault => Fault::Refused(SessionFault::LinkFault),
+        PacketFault::Memory => Fault::Memory,
     }
 }
 
-impl From<PacketFault> for SessionFault {
-    ghost use Rattle.std.specs.Prelude.{◌≡◌};
-    ghost use Rattle.update_sessions.specs.Faults.{of_packet};
-
-    ghost from_gives = { λ fault e. e ≡ of_packet fault };
-
-    fn from(fault: PacketFault) -> SessionFault {
-        match fault {
-            PacketFault::Refused(cause) => SessionFault::Packet(cause),
-            PacketFault::ReadFault => SessionFault::LinkFault,
-            PacketFault::Memory => SessionFault::Memory,
-        }
+/// Why a packet is no message, as a fault of the session.
+pub fn of_wire(fault: Fault<WireFault>) -> Fault<SessionFault>
+    ensures { result ≡ of_wire fault }
+{
+    match fault {
+        Fault::Refused(cause) => Fault::Refused(SessionFault::Wire(cause)),
+        Fault::Memory => Fault::Memory,
     }
 }
 
-impl From<Fault<WireFault>> for SessionFault {
-    ghost use Rattle.std.specs.Prelude.{◌≡◌};
-    ghost use Rattle.update_sessions.specs.Faults.{of_wire};
-
-    ghost from_gives = { λ fault e. e ≡ of_wire fault };
-
-    fn from(fault: Fault<WireFault>) -> SessionFault {
-        match fault {
-            Fault::Refused(cause) => SessionFault::Wire(cause),
-            Fault::Memory => SessionFault::Memory,
-        }
-    }
-}
-
-impl From<Fault<ClientFault>> for SessionFault {
-    ghost use Rattle.std.specs.Prelude.{◌≡◌};
-    ghost use Rattle.update_sessions.specs.Faults.{of_client};
-
-    ghost from_gives = { λ fault e. e ≡ of_client fault };
-
-    fn from(fault: Fault<ClientFault>) -> SessionFault {
-        match fault {
-            Fault::Refused(cause) => SessionFault::Client(cause),
-            Fault::Memory => SessionFault::Memory,
-        }
-    }
-}
-
-impl From<WriteFault> for SessionFault {
-    ghost use Rattle.std.specs.Prelude.{◌≡◌};
-    ghost use Rattle.update_sessions.specs.declared.fault.SessionFault.TheVariants.{LinkFault};
-
-    ghost from_gives = { λ _ e. e ≡ LinkFault };
-
-    fn from(_e: WriteFault) -> SessionFault {
-        SessionFault::LinkFault
+/// Why a client refuses a frame, as a fault of the session.
+pub fn of_client(fault: Fault<ClientFault>) -> Fault<SessionFault>
+    ensures { result ≡ of_client fault }
+{
+    match fault {
+        Fault::Refused(cause) => Fault::Refused(SessionFault::Client(cause)),
+        Fault::Memory => Fault::Memory,
     }
 }

@@ -4,14 +4,15 @@ ghost use Rattle.tl_base.specs.Using.{Used};
 ghost use Rattle.box_wire.specs.Framing.{WireRefused};
 ghost use Rattle.box_wire.specs.Kinds.{frames};
 ghost use Rattle.box_world.specs.Fitting.{IsHearable};
+ghost use Rattle.update_sessions.specs.Faults.{end_as};
 ghost use Rattle.update_sessions.specs.Packed.{MeansFrame};
 ghost use Rattle.update_sessions.specs.Receiving.{Receives};
 
-use crate::fault::SessionFault;
+use crate::fault::{SessionFault, of_packet, of_wire};
 use box_events::Frame;
 use box_wire::read_frame;
 use std::alloc::Global;
-use tl_base::{Bytes, Source, read_packet};
+use tl_base::{Bytes, Fault, Source, read_packet};
 use wire_profile::Profile;
 
 /// Reads the next frame; none where the link has ended. Its packet's bytes are read into `packet`.
@@ -20,14 +21,18 @@ pub fn receive_frame<S: Source>(
     profile: &Profile,
     from: &mut S,
     packet: &mut Bytes,
-) -> Result<Option<Frame>, SessionFault>
-    ensures receives { IfSome (S.state from.old).left (λ bytes. Receives (MeansFrame profile.now) (WireRefused profile.now frames) bytes (S.state from.new).left result) }
+) -> Result<Option<Frame>, Fault<SessionFault>>
+    ensures receives { IfSome (S.state from.old).left (λ bytes. Receives (MeansFrame profile.now) (WireRefused profile.now frames) bytes (S.state from.new).left (end_as result)) }
     ensures hearable { IfOk result (λ next. IfSome next IsHearable) }
-    ensures used { Used (S.state from.old) (S.state from.new) (IsErrOf result SessionFault.LinkFault) }
+    ensures used { Used (S.state from.old) (S.state from.new) (IsErrOf result (Fault.Refused SessionFault.LinkFault)) }
 {
-    if !read_packet(from, packet)? {
-        return Ok(None);
+    match read_packet(from, packet) {
+        Ok(true) => {}
+        Ok(false) => return Ok(None),
+        Err(fault) => return Err(of_packet(fault)),
     }
-    let frame = read_frame(alloc, profile, packet.as_slice())?;
-    Ok(Some(frame))
+    match read_frame(alloc, profile, packet.as_slice()) {
+        Ok(frame) => Ok(Some(frame)),
+        Err(fault) => Err(of_wire(fault)),
+    }
 }

@@ -7,19 +7,19 @@ ghost use Rattle.update_sessions.specs.Exchanges.{MaySend, MaySendFor};
 ghost use Rattle.update_sessions.specs.Kept.{RoomFor, Stores, end_of};
 ghost use Rattle.update_sessions.specs.Links.{LinkNeverFails, UsesLink};
 ghost use Rattle.update_sessions.specs.Serving.{server_side};
-ghost use Rattle.update_sessions.specs.inner.StoreSteps.{StoresNext};
+ghost use Rattle.update_sessions.specs.inner.StoreSteps.{StoresNext, of_session};
 
 use crate::answering::answer_packet;
-use crate::fault::{MAX_FRAMES, SessionFault};
+use crate::fault::{MAX_FRAMES, SessionFault, of_packet};
 use box_server::{Keeper, Stored};
 use std::alloc::Global;
-use tl_base::{Bytes, Link, PacketFault, read_packet, write_all};
+use tl_base::{Bytes, Fault, Link, read_packet, write_all};
 use wire_profile::Profile;
 
 /// Why a session of a store ended.
 #[derive(Clone, Copy)]
 pub enum StoreSession {
-    /// As a session of its server ends. The fault is no `Memory`.
+    /// As a session of its server ends.
     Session { fault: SessionFault },
     Memory,
     /// The keeper failed at a post, for which nothing was written.
@@ -78,12 +78,7 @@ fn serve_next<K: Keeper, L: Link>(
     match read_packet(link, packet) {
         Ok(true) => {}
         Ok(false) => return Ok(false),
-        Err(PacketFault::Memory) => return Err(StoreSession::Memory),
-        Err(fault) => {
-            return Err(StoreSession::Session {
-                fault: SessionFault::from(fault),
-            });
-        }
+        Err(fault) => return Err(of_session(of_packet(fault))),
     }
     match answer_packet(alloc, profile, store, packet.as_slice(), out) {
         Ok(()) => {}
@@ -94,5 +89,15 @@ fn serve_next<K: Keeper, L: Link>(
         Err(_) => Err(StoreSession::Session {
             fault: SessionFault::LinkFault,
         }),
+    }
+}
+
+// How a session of a store ends where its server's does so.
+fn of_session(fault: Fault<SessionFault>) -> StoreSession
+    ensures { result ≡ of_session fault }
+{
+    match fault {
+        Fault::Refused(fault) => StoreSession::Session { fault },
+        Fault::Memory => StoreSession::Memory,
     }
 }

@@ -84,7 +84,6 @@ served_by p s bytes out t (Err (fault.Wire f)) cs h = h.1.ends
 served_by p s bytes out t (Err (fault.Client f)) cs h = absurd h
 served_by p s bytes out t (Err fault.TooManyFrames) cs h = h.1.ends
 served_by p s bytes out t (Err fault.LinkFault) cs h = broken_ends (server_side p) s t bytes out cs h
-served_by p s bytes out t (Err fault.Memory) cs h = broken_ends (server_side p) s t bytes out cs h
 
 -- moments have 31 bits
 abbrev AreLow : List ℕ → Type 0

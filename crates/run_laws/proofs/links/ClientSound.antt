@@ -83,7 +83,6 @@ lost_or (session.Wire f) short = inr tt
 lost_or (session.Client f) short = inr tt
 lost_or session.TooManyFrames short = inr tt
 lost_or session.LinkFault short = inl tt
-lost_or session.Memory short = inl tt
 
 -- slots were read until then
 room_later : (a : Answer) (s m : Outside) → OnlySlots s m → HasRoomFor a s.view → HasRoomFor a m.view

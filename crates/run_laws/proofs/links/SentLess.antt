@@ -20,10 +20,10 @@ use Rattle.box_wire.specs.Framing.{WireRefused}
 use Rattle.box_wire.proofs.Exactly as exactly
 use Rattle.box_wire.proofs.FrameLaws.{frame_formed, frame_laws}
 use Rattle.update_sessions.specs.declared.fault.SessionFault.{SessionFault}
-use Rattle.update_sessions.specs.declared.fault.SessionFault.TheVariants.{Packet, Wire, Client, TooManyFrames, LinkFault, Memory}
+use Rattle.update_sessions.specs.declared.fault.SessionFault.TheVariants.{Packet, Wire, Client, TooManyFrames, LinkFault}
 use Rattle.update_sessions.specs.declared.fault.TheConstants.{MAX_FRAMES}
 use Rattle.update_sessions.specs.Exchanges.{Side, Exchanged}
-use Rattle.update_sessions.specs.Heard.{HearsOn, Hears, IsBrokenOff, RefusedFrame, broke_off, asked}
+use Rattle.update_sessions.specs.Heard.{HearsOn, Hears, RefusedFrame, broke_off, asked}
 use Rattle.update_sessions.specs.Hearing.{IsTaken, cause_of, client_side}
 use Rattle.update_sessions.specs.Packed.{Came, MeansFrame, Packed, SpellsCall}
 use Rattle.update_sessions.specs.Receiving.{ComesFirst, RefusedPacket}
@@ -123,11 +123,6 @@ module _ (p : ProfileView) (good : IsProfile p) where
   whole_on c bytes out d (Err TooManyFrames) fs last are whole (left, x, asks, is, none) =
       ends_at c bytes left out d fs x (omega (arith, is)) (λ m rest less comes takes. absurd (omega (arith, is, less)))
   whole_on c bytes out d (Err LinkFault) fs last are whole h = absurd whole
-  whole_on c bytes out d (Err Memory) fs last are whole h = absurd whole
-
-  not_broken : (r : Result ℕ SessionFault) → IsWhole r → IsBrokenOff r → ⊥
-  not_broken r whole (inl is) = subst IsWhole is whole
-  not_broken r whole (inr is) = subst IsWhole is whole
 
   -- all that was asked at first, and a session that ends
   pub record Session (c : ClientState) (bytes out : List ℕ) : Type 0 where
@@ -138,7 +133,7 @@ module _ (p : ProfileView) (good : IsProfile p) where
     pub on : Whole (begun c) bytes more
 
   pub session_of : (c : ClientState) (bytes out : List ℕ) (d : ClientState) (r : Result ℕ SessionFault) (fs last : List Frame) → AreBytes bytes → IsWhole r → Hears p c bytes out d r fs last → Session c bytes out
-  session_of c bytes out d r fs last are whole (broke_off broken part is none empty) = absurd (not_broken r whole broken)
+  session_of c bytes out d r fs last are whole (broke_off broken part is none empty) = absurd (subst IsWhole broken whole)
   session_of c bytes out d r fs last are whole (asked first more packed parts on) = record { first = first; more = more; asked_first = packed; parts = parts; on = whole_on (begun c) bytes more d r fs last are whole on }
 
   -- ---- one that stops while it sends

@@ -38,14 +38,13 @@ use Rattle.session_rooms.proofs.LeftPackets.{packet_left}
 use Rattle.session_rooms.proofs.PostUnfailing.{IsTaken as IsTaking, taken_never}
 use Rattle.run_laws.proofs.links.SentLess.{Session, first_less, later_less}
 
--- the link failed, or memory ran out
+-- the link failed
 abbrev pub IsLost : SessionFault → Type 0
 IsLost (session.Packet fault) = ⊥
 IsLost (session.Wire fault) = ⊥
 IsLost (session.Client fault) = ⊥
 IsLost session.TooManyFrames = ⊥
 IsLost session.LinkFault = Unit {0}
-IsLost session.Memory = Unit {0}
 
 same_fault : (fault other : SessionFault) → ◌≡◌ {A = Outcome} (Err fault) (Err other) → fault ≡ other
 same_fault fault other is = cc

@@ -102,4 +102,3 @@ failed_end (Err (session.Wire f)) is = absurd (packet_end (Some (wire_line (code
 failed_end (Err (session.Client f)) is = absurd (packet_end (Some (answer_line f)) is)
 failed_end (Err session.TooManyFrames) is = absurd cc
 failed_end (Err session.LinkFault) is = refl
-failed_end (Err session.Memory) is = absurd cc

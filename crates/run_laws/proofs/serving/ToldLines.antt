@@ -219,7 +219,6 @@ module _ (number : ℕ) (tally : Tally) (t u : List Event) (r : Told) (a b : Out
   tells_end (Err (session.Client fault)) e is h = peer_ends (session_line (session.Client fault)) e is h
   tells_end (Err session.TooManyFrames) e is h = peer_ends (session_line session.TooManyFrames) e is h
   tells_end (Err session.LinkFault) e is h = subst TellsOf (same_end link_fault e is) (fault_ends link_fault link_fault_line statuses.LinkFault refl refl refl h)
-  tells_end (Err session.Memory) e is h = absurd (let no : ◌≡◌ {A = Option SessionEnd} None (Some e) = is in cc)
 
 -- ---- likewise of acts, after which the next session may come
 

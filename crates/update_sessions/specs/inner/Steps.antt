@@ -11,7 +11,7 @@ use Rattle.wire_profile.specs.Indexes.{ProfileView}
 use Rattle.box_wire.specs.Kinds.{frames}
 use Rattle.box_wire.specs.Framing.{WireRefused}
 use Rattle.update_sessions.specs.declared.fault.SessionFault.{SessionFault}
-use Rattle.update_sessions.specs.declared.fault.SessionFault.TheVariants.{Packet, Wire, Client, TooManyFrames, LinkFault, Memory}
+use Rattle.update_sessions.specs.declared.fault.SessionFault.TheVariants.{Packet, Wire, Client, TooManyFrames, LinkFault}
 use Rattle.update_sessions.specs.Links.{OverLink}
 use Rattle.update_sessions.specs.Exchanges.{Side, Exchanged, Cut}
 use Rattle.update_sessions.specs.Receiving.{RefusedPacket}
@@ -58,7 +58,6 @@ HearsNone p c bytes out d (Wire fault) = Unmoved c out d × RefusedPacket (WireR
 HearsNone p c bytes out d (Client fault) = (f : Frame) × Unmoved c out d × RefusedFrame p c bytes f fault
 HearsNone p c bytes out d TooManyFrames = ⊥
 HearsNone p c bytes out d LinkFault = (fs : List Frame) × BreaksOff (client_side p) c bytes out d fs
-HearsNone p c bytes out d Memory = (fs : List Frame) × BreaksOff (client_side p) c bytes out d fs
 
 -- a frame is heard, or a fault
 abbrev pub HearsNext : ProfileView → ClientState → Option (List ℕ) → Option (List ℕ) → Option (List ℕ) → Option (List ℕ) → ClientState → Result (Unit {0}) SessionFault → Type 0

@@ -10,12 +10,16 @@ use Rattle.box_server.specs.declared.entry.Entry.{Entry}
 use Rattle.box_server.specs.Keeping.{with_more}
 use Rattle.box_server.specs.declared.store_fault.KeepFault.{KeepFault}
 use Rattle.box_server.specs.declared.store_fault.KeepFault.TheVariants as keeping
+use Rattle.tl_base.specs.declared.fault.Fault.{Fault}
+use Rattle.tl_base.specs.declared.fault.Fault.TheVariants.{Refused, Memory}
 use Rattle.wire_profile.specs.Indexes.{ProfileView}
 use Rattle.box_wire.specs.Kinds.{calls}
 use Rattle.box_wire.specs.Framing.{WireRefused}
 use Rattle.update_sessions.specs.declared.answering.CallAnswer.{CallAnswer}
 use Rattle.update_sessions.specs.declared.fault.SessionFault.{SessionFault}
-use Rattle.update_sessions.specs.declared.fault.SessionFault.TheVariants.{Packet, Wire, Client, TooManyFrames, LinkFault, Memory}
+use Rattle.update_sessions.specs.declared.fault.SessionFault.TheVariants.{Packet, Wire, Client, TooManyFrames, LinkFault}
+use Rattle.update_sessions.specs.declared.storing.StoreSession.{StoreSession}
+use Rattle.update_sessions.specs.declared.storing.StoreSession.TheVariants as store
 use Rattle.update_sessions.specs.Exchanges.{after_all}
 use Rattle.update_sessions.specs.Kept.{StoreEnd, ended, keeper_failed, kept_for, kept_in}
 use Rattle.update_sessions.specs.Links.{OverLink}
@@ -59,6 +63,11 @@ TakesCall s n r entries now_entries t (Err keeping.Failed) = (kept_for s r ≢ [
 
 -- ---- a step
 
+-- a fault of its server's session ends a store's so
+abbrev pub of_session : Fault SessionFault → StoreSession
+of_session (Refused fault) = store.Session fault
+of_session Memory = store.Memory
+
 -- why a server takes no call, or not all is written that is sent for it
 abbrev pub ServesNone : ProfileView → ServerState → List ℕ → List ℕ → ServerState → SessionFault → List Numbered → Type 0
 ServesNone p s bytes out t (Packet fault) cs = Unmoved s out t × NoPacket bytes fault × (cs ≡ [])
@@ -66,7 +75,6 @@ ServesNone p s bytes out t (Wire fault) cs = Unmoved s out t × RefusedPacket (W
 ServesNone p s bytes out t (Client fault) cs = ⊥
 ServesNone p s bytes out t TooManyFrames cs = ⊥
 ServesNone p s bytes out t LinkFault cs = BreaksOff (server_side p) s bytes out t cs
-ServesNone p s bytes out t Memory cs = BreaksOff (server_side p) s bytes out t cs
 
 -- a post comes that would be kept, and nothing is written
 pub record KeeperFails (p : ProfileView) (s : ServerState) (bytes out : List ℕ) : Type 0 where

@@ -1,6 +1,5 @@
 use Rattle.std.proofs.Common.{refl}
-use Rattle.update_sessions.proofs.KeepsRoom.{keeps_still}
-use Rattle.update_sessions.proofs.ServerTurns.{turn_answered, turn_keeps, turn_unread}
+use Rattle.update_sessions.proofs.ServerTurns.{turn_answered, turn_keeps}
 use Rattle.update_sessions.proofs.answering.answer_packet.Goals as goal
 
 pub returns-in-Err-Refused-clause-answers : goal.returns-in-Err-Refused-clause-answers

@@ -1,6 +1,8 @@
 use Rattle.std.proofs.Common.{arith, refl, rules, ◌∙◌, ◌+◌}
 use Rattle.std.proofs.lemmas.Result.{err_from_is_err_and}
+use Rattle.tl_base.specs.declared.fault.Fault.TheVariants.{Refused}
 use Rattle.update_sessions.specs.declared.fault.SessionFault.TheVariants.{LinkFault}
+use Rattle.update_sessions.specs.Faults.{fault_as}
 use Rattle.update_sessions.specs.Exchanges.{MaySend}
 use Rattle.update_sessions.specs.declared.fault.TheConstants.{MAX_FRAMES}
 use Rattle.update_sessions.specs.Hearing.{client_side}
@@ -15,7 +17,7 @@ returns-in_err-hear_next-clause-hears g c =
     let to = g.L.Sink in
     let q = err_from_is_err_and c.from_residual.result c.from_residual.ensures.1 in
     rw (q.1, q.2) (hears_stopped c.args.profile.now c.args.client.now c.loop-frames.client c.hear_next.new.client c.loop-frames.frames (from.state c.args.link.now).left (to.state c.args.link.now).written
-    (from.state c.loop-frames.link).left (to.state c.loop-frames.link).written (from.state c.hear_next.new.link).left (to.state c.hear_next.new.link).written c.in_err-hear_next.field-0.0 c.loop-frames-test.true (search rules) c.loop-frames.invariant.so_many
+    (from.state c.loop-frames.link).left (to.state c.loop-frames.link).written (from.state c.hear_next.new.link).left (to.state c.hear_next.new.link).written (fault_as c.in_err-hear_next.field-0.0) c.loop-frames-test.true (search rules) c.loop-frames.invariant.so_many
     c.in_err-hear_next.ensures.hears)
 
 pub returns-in_err-hear_next-clause-never : goal.returns-in_err-hear_next-clause-never
@@ -27,7 +29,7 @@ returns-in_err-hear_next-clause-never g c =
     never_as (from.state c.args.link.now) (to.state c.args.link.now) (MaySend side c.args.client.now) _ _
     (never_then side MAX_FRAMES c.args.client.now c.loop-frames.client c.loop-frames.frames (from.state c.args.link.now) (from.state c.loop-frames.link) (to.state c.args.link.now) (to.state c.loop-frames.link) _ _ c.loop-frames-test.true c.loop-frames.invariant.so_many c.loop-frames.invariant.used
     c.hear_next.ensures.never)
-    (λ e. failed_as c.from_residual.result c.hear_next.result q.0 c.in_err-hear_next.field-0.0 LinkFault q.1 q.2 c.in_err-hear_next.was e)
+    (λ e. failed_as c.from_residual.result c.hear_next.result q.0 c.in_err-hear_next.field-0.0 (Refused LinkFault) q.1 q.2 c.in_err-hear_next.was e)
 
 pub loop-frames-preserved : goal.loop-frames-preserved
 loop-frames-preserved g c =

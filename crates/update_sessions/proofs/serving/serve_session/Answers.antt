@@ -1,6 +1,6 @@
 use Rattle.std.proofs.Common.{ℕ, None, Ok, Err, ◌∙◌}
 use Rattle.box_server.specs.Servers.{dated_at}
-use Rattle.update_sessions.specs.declared.fault.SessionFault.TheVariants.{Memory}
+use Rattle.update_sessions.specs.declared.fault.SessionFault.TheVariants.{LinkFault}
 use Rattle.update_sessions.specs.declared.storing.StoreSession.TheVariants as store
 use Rattle.update_sessions.specs.Exchanges.{MaySend}
 use Rattle.update_sessions.specs.Kept.{StoreEnd, Stores}
@@ -45,4 +45,4 @@ returns-in-Err-Memory-clause-serves g c =
     let old = (g.L.Sink.state c.args.link.now).written in
     let new = (g.L.Sink.state c.store_session-end.new.link).written in
     let stores = ended_by (λ (x : StoreEnd ℕ). Stores p d left old new None None x) t c.store_session-end.result c.in-Err-Memory.field-0 store.Memory c.in-Err-Memory.is (rw c.in-Err-Memory.is at c.in-Err-Memory.field-0-is) c.store_session-end.ensures.stores in
-    served_of p c.args.server.now c.over-store.result.server t c.into_server.result c.args.now left old new None None (Err Memory) (c.over-store.ensures ∙ c.replace.ensures.value) c.into_server.ensures stores
+    served_of p c.args.server.now c.over-store.result.server t c.into_server.result c.args.now left old new None None (Err LinkFault) (c.over-store.ensures ∙ c.replace.ensures.value) c.into_server.ensures stores

@@ -14,8 +14,8 @@ use Rattle.update_sessions.proofs.Stepping.{never_as, never_then}
 use Rattle.update_sessions.proofs.Untaken.{ends_stores}
 use Rattle.update_sessions.proofs.storing.store_session.Goals as goal
 
-pub returns-in-Err-clause-stores : goal.returns-in-Err-clause-stores
-returns-in-Err-clause-stores g c =
+pub returns-in-Err : goal.returns-in-Err
+returns-in-Err g c =
     let from = g.L.Source.state in
     let to = g.L.Sink.state in
     let keeper = g.K.Keeper.state in
@@ -31,66 +31,20 @@ returns-in-Err-clause-stores g c =
     let x = to c.args.link.now in
     let y = to c.loop-calls.link in
     let z = to c.serve_next.new.link in
-    let first = keeper c.args.store.now.keeper in
-    let mid = keeper c.loop-calls.store.keeper in
-    let end = c.in-Err.end in
-    ends_stores p s u n a.left x.written b.left y.written first.entries mid.entries (keeper c.serve_next.new.store.keeper).entries so few d.left z.written c.serve_next.new.store.server end c.in-Err.ensures.stores
-
-pub returns-in-Err-clause-kept : goal.returns-in-Err-clause-kept
-returns-in-Err-clause-kept g c =
-    let from = g.L.Source.state in
-    let to = g.L.Sink.state in
-    let keeper = g.K.Keeper.state in
-    let p = c.args.profile.now in
-    let s = dated_at c.args.store.now.server c.args.now in
-    let u = c.loop-calls.store.server in
-    let n = c.loop-calls.calls in
-    let so = c.loop-calls.invariant.so_far in
-    let few = c.loop-calls-test.true in
-    let a = from c.args.link.now in
-    let b = from c.loop-calls.link in
-    let x = to c.args.link.now in
-    let y = to c.loop-calls.link in
     let first = keeper c.args.store.now.keeper in
     let mid = keeper c.loop-calls.store.keeper in
     let last = keeper c.serve_next.new.store.keeper in
-    keeps_as first last _ _ _ _ (λ es fits. fits) (λ e. cc) (keeps_next p MAX_FRAMES s u n a.left x.written b.left y.written first mid last _ so few c.loop-calls.invariant.kept c.in-Err.ensures.kept)
-
-pub returns-in-Err-clause-used : goal.returns-in-Err-clause-used
-returns-in-Err-clause-used g c =
-    let from = g.L.Source.state in
-    let to = g.L.Sink.state in
-    let a = from c.args.link.now in
-    let b = from c.loop-calls.link in
-    let d = from c.serve_next.new.link in
-    let x = to c.args.link.now in
-    let y = to c.loop-calls.link in
-    let z = to c.serve_next.new.link in
-    uses_then a b d x y z ⊥ _ c.loop-calls.invariant.used (uses_as b d y z _ _ c.in-Err.ensures.used (λ e. cc))
-
-pub returns-in-Err-clause-beside : goal.returns-in-Err-clause-beside
-returns-in-Err-clause-beside g c =
-    c.serve_next.ensures.beside ∙ c.loop-calls.invariant.beside
-
-pub returns-in-Err-clause-never : goal.returns-in-Err-clause-never
-returns-in-Err-clause-never g c =
-    let from = g.L.Source.state in
-    let to = g.L.Sink.state in
-    let p = c.args.profile.now in
-    let s = dated_at c.args.store.now.server c.args.now in
-    let u = c.loop-calls.store.server in
-    let n = c.loop-calls.calls in
-    let so = c.loop-calls.invariant.so_far in
-    let few = c.loop-calls-test.true in
-    let a = from c.args.link.now in
-    let b = from c.loop-calls.link in
-    let x = to c.args.link.now in
-    let y = to c.loop-calls.link in
     let side = server_side p in
-    never_as a x (MaySend side s) _ _ (never_then side MAX_FRAMES s u n a b x y _ _ few (so.calls, so.count, so.link) c.loop-calls.invariant.used c.in-Err.ensures.never) (λ e. cc)
+    record {
+      stores = ends_stores p s u n a.left x.written b.left y.written first.entries mid.entries last.entries so few d.left z.written c.serve_next.new.store.server c.in-Err.end c.in-Err.ensures.stores;
+      kept = keeps_as first last _ _ _ _ (λ es fits. fits) (λ e. cc) (keeps_next p MAX_FRAMES s u n a.left x.written b.left y.written first mid last _ so few c.loop-calls.invariant.kept c.in-Err.ensures.kept);
+      used = uses_then a b d x y z ⊥ _ c.loop-calls.invariant.used (uses_as b d y z _ _ c.in-Err.ensures.used (λ e. cc));
+      beside = c.serve_next.ensures.beside ∙ c.loop-calls.invariant.beside;
+      never = never_as a x (MaySend side s) _ _ (never_then side MAX_FRAMES s u n a b x y _ _ few (so.calls, so.count, so.link) c.loop-calls.invariant.used c.in-Err.ensures.never) (λ e. cc);
+    }
 
-pub returns-then-not-more-clause-stores : goal.returns-then-not-more-clause-stores
-returns-then-not-more-clause-stores g c =
+pub returns-then-not-more : goal.returns-then-not-more
+returns-then-not-more g c =
     let from = g.L.Source.state in
     let to = g.L.Sink.state in
     let keeper = g.K.Keeper.state in
@@ -110,43 +64,13 @@ returns-then-not-more-clause-stores g c =
     let mid = keeper c.loop-calls.store.keeper in
     let last = keeper c.serve_next.new.store.keeper in
     let t = c.serve_next.new.store.server in
-    stores_ended p s u n a.left x.written b.left y.written first.entries mid.entries so few d.left z.written last.entries t (subst (λ (v : Bool). StoresNext p u b.left y.written d.left z.written mid.entries last.entries (ended t (Ok v))) (search rules) c.in-Ok.ensures.stores)
-
-pub returns-then-not-more-clause-kept : goal.returns-then-not-more-clause-kept
-returns-then-not-more-clause-kept g c =
-    let from = g.L.Source.state in
-    let to = g.L.Sink.state in
-    let keeper = g.K.Keeper.state in
-    let p = c.args.profile.now in
-    let s = dated_at c.args.store.now.server c.args.now in
-    let u = c.loop-calls.store.server in
-    let n = c.loop-calls.calls in
-    let so = c.loop-calls.invariant.so_far in
-    let few = c.loop-calls-test.true in
-    let a = from c.args.link.now in
-    let b = from c.loop-calls.link in
-    let x = to c.args.link.now in
-    let y = to c.loop-calls.link in
-    let first = keeper c.args.store.now.keeper in
-    let mid = keeper c.loop-calls.store.keeper in
-    let last = keeper c.serve_next.new.store.keeper in
-    keeps_as first last _ _ _ _ (λ es fits. fits) (λ e. absurd cc) (keeps_next p MAX_FRAMES s u n a.left x.written b.left y.written first mid last _ so few c.loop-calls.invariant.kept c.in-Ok.ensures.kept)
-
-pub returns-then-not-more-clause-used : goal.returns-then-not-more-clause-used
-returns-then-not-more-clause-used g c =
-    let from = g.L.Source.state in
-    let to = g.L.Sink.state in
-    let a = from c.args.link.now in
-    let b = from c.loop-calls.link in
-    let d = from c.serve_next.new.link in
-    let x = to c.args.link.now in
-    let y = to c.loop-calls.link in
-    let z = to c.serve_next.new.link in
-    uses_then a b d x y z ⊥ _ c.loop-calls.invariant.used (uses_as b d y z _ _ c.in-Ok.ensures.used (λ e. absurd cc))
-
-pub returns-then-not-more-clause-beside : goal.returns-then-not-more-clause-beside
-returns-then-not-more-clause-beside g c =
-    c.serve_next.ensures.beside ∙ c.loop-calls.invariant.beside
+    record {
+      stores = stores_ended p s u n a.left x.written b.left y.written first.entries mid.entries so few d.left z.written last.entries t (subst (λ (v : Bool). StoresNext p u b.left y.written d.left z.written mid.entries last.entries (ended t (Ok v))) (search rules) c.in-Ok.ensures.stores);
+      kept = keeps_as first last _ _ _ _ (λ es fits. fits) (λ e. absurd cc) (keeps_next p MAX_FRAMES s u n a.left x.written b.left y.written first mid last _ so few c.loop-calls.invariant.kept c.in-Ok.ensures.kept);
+      used = uses_then a b d x y z ⊥ _ c.loop-calls.invariant.used (uses_as b d y z _ _ c.in-Ok.ensures.used (λ e. absurd cc));
+      beside = c.serve_next.ensures.beside ∙ c.loop-calls.invariant.beside;
+      never = λ bytes before told also sound fits failed. absurd cc;
+    }
 
 pub loop-calls-preserved : goal.loop-calls-preserved
 loop-calls-preserved g c =
