@@ -2,16 +2,9 @@
 use Rattle.std.specs.Prelude.{◌≡◌, ℕ, ◌+◌, List, [], ◌∷◌, length, Bool, true, false, ltb, eqb, cond, Option, Some, None, slice_get}
 use Rattle.box_events.specs.declared.steps.Step.{Step}
 use Rattle.box_events.specs.declared.steps.Step.TheVariants as step
+use Rattle.box_world.specs.declared.fault.StepFault.{StepFault}
+use Rattle.box_world.specs.declared.fault.StepFault.TheVariants.{NoClient, NoPacket, PoolFull, WrongEnd}
 use Rattle.box_world.specs.Worlds.{Packet, push, request, reply, World, happens}
-
-pub data StepCause : Type 0 where
-  -- there is no client of this number, or no packet
-  no_client : ℕ → StepCause
-  no_packet : ℕ → StepCause
-  -- this packet goes to another end
-  wrong_end : ℕ → StepCause
-  -- all packets would come to so many bytes
-  pool_full : ℕ → StepCause
 
 -- the packets of a pool have so many bytes at most
 unfoldable pub most_bytes : ℕ
@@ -31,7 +24,7 @@ packet_of (step.Hear k m) = Some m
 packet_of s = None
 
 -- the cause, where a number is named that isn't below a count
-abbrev pub past : (ℕ → StepCause) → ℕ → Option ℕ → Option StepCause
+abbrev pub past : (ℕ → StepFault) → ℕ → Option ℕ → Option StepFault
 past cause count None = None
 past cause count (Some n) = cond (ltb n count) None (Some (cause n))
 
@@ -49,10 +42,10 @@ is_for k (Some (push p)) = true
 is_for k (Some (request j n)) = false
 is_for k (Some (reply j n r s)) = eqb j k
 
-abbrev pub wrong : Bool → ℕ → Option StepCause
-wrong fits m = cond fits None (Some (wrong_end m))
+abbrev pub wrong : Bool → ℕ → Option StepFault
+wrong fits m = cond fits None (Some (WrongEnd m))
 
-abbrev pub goes_wrong : World → Step → Option StepCause
+abbrev pub goes_wrong : World → Step → Option StepFault
 goes_wrong w (step.Serve m) = wrong (is_served (slice_get w.pool m)) m
 goes_wrong w (step.Hear k m) = wrong (is_for k (slice_get w.pool m)) m
 goes_wrong w s = None
@@ -62,19 +55,19 @@ abbrev pub bytes_in : (Packet → ℕ) → List Packet → ℕ
 bytes_in size [] = 0
 bytes_in size (m ∷ ms) = size m + bytes_in size ms
 
-abbrev pub overfull : (Packet → ℕ) → World → Option StepCause
-overfull size w = cond (ltb most_bytes (bytes_in size w.pool)) (Some (pool_full (bytes_in size w.pool))) None
+abbrev pub overfull : (Packet → ℕ) → World → Option StepFault
+overfull size w = cond (ltb most_bytes (bytes_in size w.pool)) (Some (PoolFull (bytes_in size w.pool))) None
 
 -- the first of two
-abbrev pub or_else : Option StepCause → Option StepCause → Option StepCause
+abbrev pub or_else : Option StepFault → Option StepFault → Option StepFault
 or_else None o = o
 or_else (Some cause) o = Some cause
 
 -- why a step isn't possible, the first cause that holds; a packet's size is handed in
-unfoldable pub refusal : (Packet → ℕ) → World → Step → Option StepCause
+unfoldable pub refusal : (Packet → ℕ) → World → Step → Option StepFault
 refusal size w s =
-    or_else (past no_client (length w.clients) (client_of s))
-    (or_else (past no_packet (length w.pool) (packet_of s))
+    or_else (past NoClient (length w.clients) (client_of s))
+    (or_else (past NoPacket (length w.pool) (packet_of s))
     (or_else (goes_wrong w s) (overfull size (happens w s))))
 
 abbrev pub Possible : (Packet → ℕ) → World → Step → Type 0

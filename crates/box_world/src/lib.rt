@@ -1,10 +1,12 @@
-//! The world of a replay: a server, its clients and all messages, and what holds after every list of steps. There is no code, only laws.
+//! The world of a replay: a server, its clients and all messages, and what holds after every list of steps. There is no code, only laws, and why a step is not made.
 #![tactic(auto)]
 
+mod fault;
 mod frame_laws;
 mod laws;
 mod size_laws;
 
+pub use fault::StepFault;
 pub use frame_laws::{
     what_is_read_is_taken, what_is_sent_has_a_spelling, what_is_sent_is_read, what_is_sent_is_short,
 };

@@ -11,7 +11,7 @@ use Rattle.fault_lines.specs.Messages.{step_line}
 use Rattle.fault_lines.specs.Profiled.{HasProfile, OfProfileFile}
 use Rattle.update_replay.specs.Endings.{Ending, whole, no_step, not_made, too_long}
 use Rattle.update_replay.specs.Replays.{Replayed}
-use Rattle.update_commands.specs.Steps.{cause_line}
+use Rattle.update_commands.specs.Steps.{step_fault_line}
 
 -- the step at this offset is one too many, or goes past what a journal may have
 abbrev pub long_line : ℕ → List ℕ
@@ -21,7 +21,7 @@ long_line at = placed_line (codes "journal") at (codes "TooLong")
 abbrev pub ending_answer : List ℕ → Ending → Option Answer
 ending_answer output (whole k) = Some (done output)
 ending_answer output (no_step at fault) = Some (refused_after output (step_line at fault))
-ending_answer output (not_made at cause) = Some (refused_after output (cause_line at cause))
+ending_answer output (not_made at cause) = Some (refused_after output (step_fault_line at cause))
 ending_answer output (too_long at) = Some (refused_after output (long_line at))
 
 -- the journal's steps are made up to its end, or to what is refused there

@@ -1,14 +1,14 @@
 //! Steps that aren't made in a world.
 ghost use Rattle.std.specs.Prelude.{◌≡◌, IfOk, string_bytes};
-ghost use Rattle.update_commands.specs.Steps.{cause_of, cause_words, step_fault_line};
+ghost use Rattle.update_commands.specs.Steps.{cause_words, step_fault_line};
 
+use box_world::StepFault;
 use outside::placed_line;
 use std::alloc::{AllocError, Global};
-use update_world::StepFault;
 
 // The cause, and its value.
 fn cause_words(alloc: Global, fault: StepFault) -> Result<String, AllocError>
-    ensures { IfOk result (λ s. string_bytes s ≡ cause_words (cause_of fault)) }
+    ensures { IfOk result (λ s. string_bytes s ≡ cause_words fault) }
 {
     match fault {
         StepFault::NoClient { n } => format!(in alloc; "NoClient {n}"),

@@ -7,7 +7,9 @@ use Rattle.std.proofs.lemmas.Option.{none-some, same_Some}
 use Rattle.box_events.specs.declared.steps.Step.{Step}
 use Rattle.box_events.specs.declared.steps.Step.TheVariants as step
 use Rattle.box_world.specs.NumberWorlds.{numbers_of}
-use Rattle.box_world.specs.Possible.{StepCause, no_client, no_packet, pool_full, past, client_of, packet_of, goes_wrong, is_for, is_served, or_else, overfull, most_bytes, bytes_in, refusal}
+use Rattle.box_world.specs.declared.fault.StepFault.{StepFault}
+use Rattle.box_world.specs.declared.fault.StepFault.TheVariants.{NoClient, NoPacket, PoolFull}
+use Rattle.box_world.specs.Possible.{past, client_of, packet_of, goes_wrong, is_for, is_served, or_else, overfull, most_bytes, bytes_in, refusal}
 use Rattle.box_world.specs.Worlds.{Packet, World, happens}
 use Rattle.update_replay.specs.Draws.{drawn, draw_of}
 use Rattle.update_replay.specs.Laws.{DrawsAreSmall, FirstDraw, IsPoolFull, MadeStepsAreRefusedByBytes}
@@ -25,18 +27,18 @@ first_draw = (refl, refl, refl)
 
 -- the client and the packet that a step names are there, and the packet goes where the step says
 record Fits (w : World) (s : Step) : Type 0 where
-  client : past no_client (length w.clients) (client_of s) ≡ None
-  packet : past no_packet (length w.pool) (packet_of s) ≡ None
+  client : past NoClient (length w.clients) (client_of s) ≡ None
+  packet : past NoPacket (length w.pool) (packet_of s) ≡ None
   way : goes_wrong w s ≡ None
 
-full_if : (b : Bool) (bytes : ℕ) (cause : StepCause) → cond b (Some (pool_full bytes)) None ≡ Some cause → IsPoolFull cause
-full_if true bytes cause e = subst IsPoolFull (same_Some (pool_full bytes) cause e) tt
+full_if : (b : Bool) (bytes : ℕ) (cause : StepFault) → cond b (Some (PoolFull bytes)) None ≡ Some cause → IsPoolFull cause
+full_if true bytes cause e = subst IsPoolFull (same_Some (PoolFull bytes) cause e) tt
 full_if false bytes cause e = absurd (none-some cause e)
 
-last_of_four : (a b c d : Option StepCause) → a ≡ None → b ≡ None → c ≡ None → or_else a (or_else b (or_else c d)) ≡ d
+last_of_four : (a b c d : Option StepFault) → a ≡ None → b ≡ None → c ≡ None → or_else a (or_else b (or_else c d)) ≡ d
 last_of_four a b c d p q r = rw (p, q, r) refl
 
-refused_by_bytes : (size : Packet → ℕ) (w : World) (s : Step) (cause : StepCause) → Fits w s → refusal size w s ≡ Some cause → IsPoolFull cause
+refused_by_bytes : (size : Packet → ℕ) (w : World) (s : Step) (cause : StepFault) → Fits w s → refusal size w s ≡ Some cause → IsPoolFull cause
 unfolding refusal
 refused_by_bytes size w s cause f e =
     full_if (ltb most_bytes (bytes_in size (happens w s).pool)) (bytes_in size (happens w s).pool) cause (sym (last_of_four _ _ _ (overfull size (happens w s)) f.client f.packet f.way) ∙ e)
@@ -46,7 +48,7 @@ refused_by_bytes size w s cause f e =
 is_below : (k n : ℕ) → k < n → ltb k n ≡ true
 is_below k n lt = grind (arith, nat_tests)
 
-there : (cause : ℕ → StepCause) (k n : ℕ) → k < n → past cause n (Some k) ≡ None
+there : (cause : ℕ → StepFault) (k n : ℕ) → k < n → past cause n (Some k) ≡ None
 there cause k n lt = rw (is_below k n lt) refl
 
 in_range : (ps : List Packet) (i : ℕ) (p : Packet) → slice_get ps i ≡ Some p → i < length ps
@@ -78,10 +80,10 @@ date_fits : (w : World) (date : ℕ) → Fits w (step.Date date)
 date_fits w date = record { client = refl; packet = refl; way = refl }
 
 hear_fits : (w : World) (k m : ℕ) → k < length w.clients → m < length w.pool → is_for k (slice_get w.pool m) ≡ true → Fits w (step.Hear k m)
-hear_fits w k m client packet goes = record { client = there no_client k (length w.clients) client; packet = there no_packet m (length w.pool) packet; way = rw goes refl }
+hear_fits w k m client packet goes = record { client = there NoClient k (length w.clients) client; packet = there NoPacket m (length w.pool) packet; way = rw goes refl }
 
 serve_fits : (w : World) (m : ℕ) → m < length w.pool → is_served (slice_get w.pool m) ≡ true → Fits w (step.Serve m)
-serve_fits w m packet goes = record { client = refl; packet = there no_packet m (length w.pool) packet; way = rw goes refl }
+serve_fits w m packet goes = record { client = refl; packet = there NoPacket m (length w.pool) packet; way = rw goes refl }
 
 hears_if_fits : (w : World) (date k m : ℕ) (b : Bool) → is_for k (slice_get w.pool m) ≡ b → k < length w.clients → m < length w.pool → Fits w (or_date date (hears_if b k m))
 hears_if_fits w date k m true goes client packet = hear_fits w k m client packet goes
@@ -117,7 +119,7 @@ one_of_two w x two = omega (arith, two)
 
 rest_fits : (w : World) (x : ℕ) → length w.clients ≡ 2 → Fits w (drawn_rest x).it
 rest_fits w x two =
-    let client = there no_client (draw_of (drawn x) % 2) (length w.clients) (one_of_two w (drawn x) two) in
+    let client = there NoClient (draw_of (drawn x) % 2) (length w.clients) (one_of_two w (drawn x) two) in
     either (Fits w) (draw_of x % 16 == 0) _ _ (record { client = client; packet = refl; way = refl }) (either (Fits w) (draw_of x % 16 == 1) _ _ (record { client = refl; packet = refl; way = refl }) (record { client = client; packet = refl; way = refl }))
 
 made_fits : (w : World) (n x : ℕ) → length w.clients ≡ 2 → Fits w (made_step (numbers_of w) n x).it
@@ -128,7 +130,7 @@ made_fits w n x two =
     either (Fits w) (kind == 2) _ _ (date_fits w (w.server.date + 1))
     (either (Fits w) (kind == 3) _ _ (hears_drawn_fits w w.server.date k (drawn (drawn x)) w.pool refl client)
     (either (Fits w) (kind == 4) _ _ (hears_last_fits w w.server.date k (last_where (λ p. is_for k (Some p)) 0 w.pool) refl client)
-    (either (Fits w) (kind == 5) _ _ (record { client = there no_client k (length w.clients) client; packet = refl; way = refl })
+    (either (Fits w) (kind == 5) _ _ (record { client = there NoClient k (length w.clients) client; packet = refl; way = refl })
     (either (Fits w) (kind == 6) _ _ (serves_last_fits w w.server.date (last_where (λ p. is_served (Some p)) 0 w.pool) refl)
     (either (Fits w) (kind == 7) _ _ (rest_fits w (drawn x) two) (record { client = refl; packet = refl; way = refl }))))))
 

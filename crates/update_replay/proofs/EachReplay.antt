@@ -31,7 +31,8 @@ use Rattle.box_world.specs.SpelledWorlds.{FitsPacket, IsStep}
 use Rattle.box_world.proofs.FittingWorlds.{runs_fit}
 use Rattle.box_server.proofs.Carrying.{changed_overlays}
 use Rattle.box_world.specs.NumberWorlds.{NumberWorld, n_run}
-use Rattle.box_world.specs.Possible.{StepCause, bytes_in, refusal}
+use Rattle.box_world.specs.declared.fault.StepFault.{StepFault}
+use Rattle.box_world.specs.Possible.{bytes_in, refusal}
 use Rattle.box_world.specs.Worlds.{Packet, push, request, reply, World, happens, run}
 use Rattle.box_world.proofs.NumberWorlds.{numbers_follow}
 use Rattle.box_world.proofs.OneMore.{runs_go_on}
@@ -125,7 +126,7 @@ either_end [] false = inl (refl, refl)
 either_end [] true = inr (inr refl)
 either_end (b ∷ left) more = inr (inl (omega arith))
 
-possible_or : (o : Option StepCause) → (o ≡ None) ⊎ ((cause : StepCause) × (o ≡ Some cause))
+possible_or : (o : Option StepFault) → (o ≡ None) ⊎ ((cause : StepFault) × (o ≡ Some cause))
 possible_or None = inl refl
 possible_or (Some cause) = inr (cause, refl)
 

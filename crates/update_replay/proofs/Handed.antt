@@ -19,17 +19,18 @@ use Rattle.box_wire.specs.StepReading.{ReadsStep, StepGiven, StepRefused, no_val
 use Rattle.box_wire.specs.declared.fault.StepReadFault.{StepReadFault}
 use Rattle.box_wire.specs.declared.fault.StepReadFault.TheVariants as reading
 use Rattle.box_world.specs.NumberWorlds.{n_run}
-use Rattle.box_world.specs.Possible.{StepCause, no_client, no_packet, wrong_end, pool_full, refusal}
+use Rattle.box_world.specs.declared.fault.StepFault.TheVariants.{NoClient, NoPacket, PoolFull, WrongEnd}
+use Rattle.box_world.specs.Possible.{refusal}
 use Rattle.box_world.specs.Worlds.{run}
 use Rattle.update_world.specs.Shown.{Shown}
 use Rattle.update_world.specs.Spelled.{AreSent, IsSpelled, packet_size}
 use Rattle.update_world.specs.Stepping.{Happens}
-use Rattle.update_world.specs.declared.fault.StepFault.{StepFault}
-use Rattle.update_world.specs.declared.fault.StepFault.TheVariants as step_fault
+use Rattle.box_world.specs.declared.fault.StepFault.{StepFault}
+use Rattle.box_world.specs.declared.fault.StepFault.TheVariants as step_fault
 use Rattle.update_world.specs.declared.outcome.Outcome.{Outcome}
 use Rattle.update_world.specs.declared.sent.SentPacket.{SentPacket}
 use Rattle.update_replay.specs.Closings.{closing_lines}
-use Rattle.update_replay.specs.Endings.{fault_of, no_step, not_made, too_long, answer_of, is_cut_short, of_refusal}
+use Rattle.update_replay.specs.Endings.{no_step, not_made, too_long, answer_of, is_cut_short, of_refusal}
 use Rattle.update_replay.specs.Handing.{HasMade, HandsOut, FindsStep}
 use Rattle.update_replay.specs.Replays.{BeginsStep, Began, none, one_more, Next, a_step, the_end, StepFollows, no_step_follows, one_too_many, not_possible, at_its_end, IsNew, StandsAfter, StandsThen, goes_on, seen_of}
 use Rattle.update_replay.specs.StepLines.{StepLines}
@@ -176,17 +177,17 @@ module _ (p : ProfileView) (n : ℕ) (journal : List ℕ) (ss : List Step) (outp
     too_late empty many = (empty, inr (too_long old.at, one_too_many old.at old.rest.now s is_found.0 is_found.1 h.began begins (omega (arith, many, h.number)) refl, refl, h.stands))
 
     module _ (v : Shown) (few : old.steps < MAX_STEPS) where
-      stops : (cause : StepCause) → old.lines.items ≡ [] → refusal packet_size (run n ss) s ≡ Some cause → StandsThen (not_made old.at cause) p n v ss → HandsOut p n journal ss old.rest.now output v old (Err (NotMade old.at (fault_of cause)))
+      stops : (cause : StepFault) → old.lines.items ≡ [] → refusal packet_size (run n ss) s ≡ Some cause → StandsThen (not_made old.at cause) p n v ss → HandsOut p n journal ss old.rest.now output v old (Err (NotMade old.at cause))
       stops cause empty refuses stands = (empty, inr (not_made old.at cause, not_possible old.at old.rest.now s is_found.0 is_found.1 cause h.began begins (omega (arith, few, h.number)) refuses refl, refl, stands))
 
       as_before : v ≡ w → StandsAfter p n v ss
       as_before is = subst (λ (z : Shown). StandsAfter p n z ss) (sym is) h.stands
 
       by_cause : (e : StepFault) → old.lines.items ≡ [] → Happens w s (run n ss) (Err (fault.Refused e)) v → HandsOut p n journal ss old.rest.now output v old (Err (NotMade old.at e))
-      by_cause (step_fault.NoClient k) empty (refuses, same) = stops (no_client k) empty refuses (as_before same)
-      by_cause (step_fault.NoPacket k) empty (refuses, same) = stops (no_packet k) empty refuses (as_before same)
-      by_cause (step_fault.WrongEnd k) empty (refuses, same) = stops (wrong_end k) empty refuses (as_before same)
-      by_cause (step_fault.PoolFull bytes) empty (refuses, spoiled) = stops (pool_full bytes) empty refuses tt
+      by_cause (step_fault.NoClient k) empty (refuses, same) = stops (NoClient k) empty refuses (as_before same)
+      by_cause (step_fault.NoPacket k) empty (refuses, same) = stops (NoPacket k) empty refuses (as_before same)
+      by_cause (step_fault.WrongEnd k) empty (refuses, same) = stops (WrongEnd k) empty refuses (as_before same)
+      by_cause (step_fault.PoolFull bytes) empty (refuses, spoiled) = stops (PoolFull bytes) empty refuses tt
 
       pub not_stepped : (e : StepFault) → old.lines.items ≡ [] → HappensIn w s (Err (fault.Refused e)) v → HandsOut p n journal ss old.rest.now output v old (Err (NotMade old.at e))
       not_stepped e empty happens = by_cause e empty (happens (run n ss) (h.stands).fine (h.stands).stands)

@@ -5,7 +5,9 @@ use Rattle.std.proofs.lemmas.Option.{none-some, same_Some}
 use Rattle.box_events.specs.declared.steps.Step.{Step}
 use Rattle.box_server.proofs.Carrying.{changed_overlays}
 use Rattle.box_world.specs.NumberWorlds.{NumberWorld, n_happens, n_run, numbers_of}
-use Rattle.box_world.specs.Possible.{StepCause, no_client, no_packet, wrong_end, pool_full, refusal}
+use Rattle.box_world.specs.declared.fault.StepFault.{StepFault}
+use Rattle.box_world.specs.declared.fault.StepFault.TheVariants.{NoClient, NoPacket, PoolFull, WrongEnd}
+use Rattle.box_world.specs.Possible.{refusal}
 use Rattle.box_world.specs.Worlds.{World, happens, run, run_from, start}
 use Rattle.box_world.proofs.NumberWorlds.{numbers_follow}
 use Rattle.box_world.proofs.OneMore.{clients_stay, runs_go_on}
@@ -24,7 +26,7 @@ use Rattle.update_replay.proofs.MadeSizes.{made_short, sizes}
 
 -- ---- after possible steps
 
-or_none : (cause : Option StepCause) (at : ℕ) (later : Option Refusal) → refused_or cause at later ≡ None → (cause ≡ None) × (later ≡ None)
+or_none : (cause : Option StepFault) (at : ℕ) (later : Option Refusal) → refused_or cause at later ≡ None → (cause ≡ None) × (later ≡ None)
 or_none None at later e = (refl, e)
 or_none (Some cause) at later e = absurd (none-some (record { at = at; cause = cause }) (sym e))
 
@@ -36,7 +38,7 @@ past_possible w at [] ys e = let same : at ≡ at + 0 = omega arith in ap (λ (n
 past_possible w at (x ∷ xs) ys e =
     let next = at + step_size x in
     let parts = or_none (refusal packet_size w x) at (first_refused (happens w x) next xs) e in
-    ap (λ (c : Option StepCause). refused_or c at (first_refused (happens w x) next (xs ++ ys))) parts.0
+    ap (λ (c : Option StepFault). refused_or c at (first_refused (happens w x) next (xs ++ ys))) parts.0
     ∙ past_possible (happens w x) next xs ys parts.1
     ∙ ap (λ (n : ℕ). first_refused (run_from (happens w x) xs) n ys) (grouped at (step_size x) (sizes xs))
 
@@ -45,7 +47,7 @@ past_possible w at (x ∷ xs) ys e =
 abbrev Full : ℕ → Refusal → Type 0
 Full most r = IsPoolFull r.cause × (r.at ≤ most)
 
-by_first : (P : Refusal → Type 0) (cause : Option StepCause) (at : ℕ) (later : Option Refusal) (r : Refusal) → ((c : StepCause) → cause ≡ Some c → P (record { at = at; cause = c })) → (later ≡ Some r → P r) → refused_or cause at later ≡ Some r → P r
+by_first : (P : Refusal → Type 0) (cause : Option StepFault) (at : ℕ) (later : Option Refusal) (r : Refusal) → ((c : StepFault) → cause ≡ Some c → P (record { at = at; cause = c })) → (later ≡ Some r → P r) → refused_or cause at later ≡ Some r → P r
 by_first P None at later r here there e = there e
 by_first P (Some c) at later r here there e = subst P (same_Some (record { at = at; cause = c }) r e) (here c refl)
 
@@ -73,11 +75,11 @@ made_offsets_are_low number count r e = let f = full number count r e in omega (
 
 -- ---- each run has an answer, and one
 
-of_cause : (number count at : ℕ) (cause : StepCause) → IsPoolFull cause → made_refusal number count ≡ Some (record { at = at; cause = cause }) → (answer : Result (List ℕ) MadeFault) × IsAnswer answer × MakesRun number count answer
-of_cause number count at (no_client n) is e = absurd is
-of_cause number count at (no_packet n) is e = absurd is
-of_cause number count at (wrong_end n) is e = absurd is
-of_cause number count at (pool_full bytes) is e = (Err (PoolFull at bytes), tt, e)
+of_cause : (number count at : ℕ) (cause : StepFault) → IsPoolFull cause → made_refusal number count ≡ Some (record { at = at; cause = cause }) → (answer : Result (List ℕ) MadeFault) × IsAnswer answer × MakesRun number count answer
+of_cause number count at (NoClient n) is e = absurd is
+of_cause number count at (NoPacket n) is e = absurd is
+of_cause number count at (WrongEnd n) is e = absurd is
+of_cause number count at (PoolFull bytes) is e = (Err (PoolFull at bytes), tt, e)
 
 of_refusal : (number count : ℕ) (o : Option Refusal) → made_refusal number count ≡ o → (answer : Result (List ℕ) MadeFault) × IsAnswer answer × MakesRun number count answer
 of_refusal number count None e = (Ok (summary packet_size count (n_run 2 (made_steps number count))), tt, (e, refl))
@@ -86,19 +88,19 @@ of_refusal number count (Some r) e = of_cause number count r.at r.cause (full nu
 pub each_is_made : EachIsMade
 each_is_made number count = of_refusal number count (made_refusal number count) refl
 
-abbrev bytes_in_cause : StepCause → ℕ
-bytes_in_cause (no_client n) = n
-bytes_in_cause (no_packet n) = n
-bytes_in_cause (wrong_end n) = n
-bytes_in_cause (pool_full n) = n
+abbrev bytes_in_cause : StepFault → ℕ
+bytes_in_cause (NoClient n) = n
+bytes_in_cause (NoPacket n) = n
+bytes_in_cause (WrongEnd n) = n
+bytes_in_cause (PoolFull n) = n
 
 pub one_is_made : OneIsMade
 one_is_made number count (Ok s) (Ok t) a b p q = ap (λ (text : List ℕ). Ok text) (p.1 ∙ sym q.1)
-one_is_made number count (Ok s) (Err (PoolFull at bytes)) a b p q = absurd (none-some (record { at = at; cause = pool_full bytes }) (sym p.0 ∙ q))
+one_is_made number count (Ok s) (Err (PoolFull at bytes)) a b p q = absurd (none-some (record { at = at; cause = PoolFull bytes }) (sym p.0 ∙ q))
 one_is_made number count (Ok s) (Err Memory) a b p q = absurd b
-one_is_made number count (Err (PoolFull at bytes)) (Ok t) a b p q = absurd (none-some (record { at = at; cause = pool_full bytes }) (sym q.0 ∙ p))
+one_is_made number count (Err (PoolFull at bytes)) (Ok t) a b p q = absurd (none-some (record { at = at; cause = PoolFull bytes }) (sym q.0 ∙ p))
 one_is_made number count (Err (PoolFull at bytes)) (Err (PoolFull place more)) a b p q =
-    let same : record { at = at; cause = pool_full bytes } ≡ record { at = place; cause = pool_full more } = same_Some (record { at = at; cause = pool_full bytes }) (record { at = place; cause = pool_full more }) (sym p ∙ q) in
+    let same : record { at = at; cause = PoolFull bytes } ≡ record { at = place; cause = PoolFull more } = same_Some (record { at = at; cause = PoolFull bytes }) (record { at = place; cause = PoolFull more }) (sym p ∙ q) in
     ap (λ (r : Refusal). Err (PoolFull r.at (bytes_in_cause r.cause))) same
 one_is_made number count (Err (PoolFull at bytes)) (Err Memory) a b p q = absurd b
 one_is_made number count (Err Memory) t a b p q = absurd a

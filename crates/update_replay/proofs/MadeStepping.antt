@@ -12,7 +12,8 @@ use Rattle.box_wire.specs.Framing.{Framed}
 use Rattle.box_wire.specs.Kinds.{steps}
 use Rattle.box_wire.proofs.StepLaws.{step_laws}
 use Rattle.box_world.specs.NumberWorlds.{NumberWorld, n_run, numbers_of}
-use Rattle.box_world.specs.Possible.{StepCause, no_client, no_packet, pool_full, refusal, wrong_end}
+use Rattle.box_world.specs.declared.fault.StepFault.TheVariants.{NoClient, NoPacket, PoolFull, WrongEnd}
+use Rattle.box_world.specs.Possible.{refusal}
 use Rattle.box_world.specs.Worlds.{World, happens, new_clients, run, start}
 use Rattle.box_world.proofs.NumberWorlds.{numbers_follow}
 use Rattle.box_world.proofs.OneMore.{runs_go_on}
@@ -24,8 +25,8 @@ use Rattle.update_replay.specs.Laws.{IsPoolFull}
 use Rattle.update_replay.specs.Made.{Chosen, made_step, made_steps}
 use Rattle.update_replay.proofs.Dates.{made_dates_stay_below}
 use Rattle.update_replay.proofs.DrawLaws.{made_steps_are_refused_by_bytes}
-use Rattle.update_world.specs.declared.fault.StepFault.{StepFault}
-use Rattle.update_world.specs.declared.fault.StepFault.TheVariants as step_fault
+use Rattle.box_world.specs.declared.fault.StepFault.{StepFault}
+use Rattle.box_world.specs.declared.fault.StepFault.TheVariants as step_fault
 use Rattle.tl_base.specs.declared.fault.Fault.TheVariants.{Refused}
 use Rattle.update_world.specs.declared.outcome.Outcome.{Outcome}
 use Rattle.update_world.specs.Shown.{Shown, StandsFor}
@@ -69,19 +70,19 @@ goes w n x s y size old new o chosen long h = record {
 }
 
 -- or it is refused for the pool's bytes
-pub refused_so : (w : World) (chosen : Chosen Step) (s : Step) (y : ℕ) (cause : StepCause) → Chooses chosen s y → refusal packet_size w s ≡ Some cause → refusal packet_size w chosen.it ≡ Some cause
+pub refused_so : (w : World) (chosen : Chosen Step) (s : Step) (y : ℕ) (cause : StepFault) → Chooses chosen s y → refusal packet_size w s ≡ Some cause → refusal packet_size w chosen.it ≡ Some cause
 refused_so w chosen s y cause is_chosen e = subst (λ (t : Step). refusal packet_size w t ≡ Some cause) is_chosen.0 e
 
-pub only_full : (shown : Shown) (w : World) (n x y : ℕ) (s : Step) (cause : StepCause) → StandsFor shown w → length shown.clients ≡ 2 → Chooses (made_step (numbers_of w) n x) s y → refusal packet_size w s ≡ Some cause → IsPoolFull cause
+pub only_full : (shown : Shown) (w : World) (n x y : ℕ) (s : Step) (cause : StepFault) → StandsFor shown w → length shown.clients ≡ 2 → Chooses (made_step (numbers_of w) n x) s y → refusal packet_size w s ≡ Some cause → IsPoolFull cause
 only_full shown w n x y s cause st two is_chosen e =
     made_steps_are_refused_by_bytes packet_size w n x cause (ap (λ (cs : List ClientState). length cs) st.clients ∙ two) (refused_so w (made_step (numbers_of w) n x) s y cause is_chosen e)
 
 -- no made step is refused for another cause
 pub never_other : (shown new : Shown) (w : World) (n x y : ℕ) (s : Step) (cause : StepFault) → StandsFor shown w → length shown.clients ≡ 2 → Chooses (made_step (numbers_of w) n x) s y
     → ((bytes : ℕ) → cause ≡ step_fault.PoolFull bytes → ⊥) → Happens shown s w (Err (Refused cause)) new → ⊥
-never_other shown new w n x y s (step_fault.NoClient k) st two chosen full h = only_full shown w n x y s (no_client k) st two chosen h.0
-never_other shown new w n x y s (step_fault.NoPacket m) st two chosen full h = only_full shown w n x y s (no_packet m) st two chosen h.0
-never_other shown new w n x y s (step_fault.WrongEnd m) st two chosen full h = only_full shown w n x y s (wrong_end m) st two chosen h.0
+never_other shown new w n x y s (step_fault.NoClient k) st two chosen full h = only_full shown w n x y s (NoClient k) st two chosen h.0
+never_other shown new w n x y s (step_fault.NoPacket m) st two chosen full h = only_full shown w n x y s (NoPacket m) st two chosen h.0
+never_other shown new w n x y s (step_fault.WrongEnd m) st two chosen full h = only_full shown w n x y s (WrongEnd m) st two chosen h.0
 never_other shown new w n x y s (step_fault.PoolFull bytes) st two chosen full h = absurd (full bytes refl)
 
 -- ---- all steps
@@ -135,24 +136,24 @@ module _ (number k at x : ℕ) (old : Shown) (g : Going number k at x old) where
           two = clients ∙ g.two;
           next = happened.number ∙ sym (number_more number k);
           bytes = ap₂ (λ (a b : ℕ). a + b) g.bytes happened.size ∙ sym (ap sizes more ∙ more_sizes done s);
-          possible = ap (λ (ss : List Step). first_refused (start 2) 0 ss) more ∙ past_possible (start 2) 0 done (s ∷ []) g.possible ∙ ap (λ (c : Option StepCause). refused_or c (0 + sizes done) None) happened.possible;
+          possible = ap (λ (ss : List Step). first_refused (start 2) 0 ss) more ∙ past_possible (start 2) 0 done (s ∷ []) g.possible ∙ ap (λ (c : Option StepFault). refused_or c (0 + sizes done) None) happened.possible;
           sound = λ some. is;
           low = omega (arith, g.low, o.few);
         }
 
   -- a step that is refused is the run's first
-  pub first_is : (count bytes : ℕ) → k < count → refusal packet_size (run 2 (made_steps number k)) (made_step (numbers_of (run 2 (made_steps number k))) k x).it ≡ Some (pool_full bytes)
-      → made_refusal number count ≡ Some (record { at = at; cause = pool_full bytes })
+  pub first_is : (count bytes : ℕ) → k < count → refusal packet_size (run 2 (made_steps number k)) (made_step (numbers_of (run 2 (made_steps number k))) k x).it ≡ Some (PoolFull bytes)
+      → made_refusal number count ≡ Some (record { at = at; cause = PoolFull bytes })
   first_is count bytes less e =
       let done = made_steps number k in
       let s = (next_made number k).it in
       let r = count - (k + 1) in
       let rest = rest_made number k r in
-      let refused : refusal packet_size (run 2 done) s ≡ Some (pool_full bytes) = sym (ap (λ (c : Chosen Step). refusal packet_size (run 2 done) c.it) is_next) ∙ e in
+      let refused : refusal packet_size (run 2 done) s ≡ Some (PoolFull bytes) = sym (ap (λ (c : Chosen Step). refusal packet_size (run 2 done) c.it) is_next) ∙ e in
       let place : 0 + sizes done ≡ at = (let same : (n : ℕ) → 0 + n ≡ n = λ n. omega arith in same (sizes done)) ∙ sym g.bytes in
       ap (λ (ss : List Step). first_refused (start 2) 0 ss) (steps_split number k r count (omega (arith, less)))
       ∙ past_possible (start 2) 0 done (s ∷ rest) g.possible
-      ∙ ap₂ (λ (c : Option StepCause) (n : ℕ). refused_or c n (first_refused (happens (run 2 done) s) (0 + sizes done + step_size s) rest)) refused place
+      ∙ ap₂ (λ (c : Option StepFault) (n : ℕ). refused_or c n (first_refused (happens (run 2 done) s) (0 + sizes done + step_size s) rest)) refused place
 
 -- ---- exits
 
@@ -161,7 +162,7 @@ pub stops_so : (number k at x y count : ℕ) (old new : Shown) (e : MadeFault) (
     → IsErrAnd r (λ z. z ≡ e) → GoesThrough number count r new
 stops_so number k at x y count old new e (Ok done) g less o is = absurd is
 stops_so number k at x y count old new (PoolFull place bytes) (Err z) g less o is =
-    let refused : made_refusal number count ≡ Some (record { at = place; cause = pool_full bytes }) = first_is number k at x old g count bytes less o.1 ∙ ap (λ (n : ℕ). Some (record { at = n; cause = pool_full bytes })) (sym o.0) in
+    let refused : made_refusal number count ≡ Some (record { at = place; cause = PoolFull bytes }) = first_is number k at x old g count bytes less o.1 ∙ ap (λ (n : ℕ). Some (record { at = n; cause = PoolFull bytes })) (sym o.0) in
     subst (λ (f : MadeFault). GoesThrough number count (Err f) new) (sym is) refused
 stops_so number k at x y count old new Memory (Err z) g less o is = subst (λ (f : MadeFault). GoesThrough number count (Err f) new) (sym is) tt
 

@@ -10,7 +10,8 @@ use Rattle.wire_profile.specs.declared.wire_fault.WireFault.{WireFault}
 use Rattle.wire_profile.specs.Indexes.{ProfileView}
 use Rattle.wire_profile.specs.Profiles.{IsProfile}
 use Rattle.box_world.specs.NumberWorlds.{n_run}
-use Rattle.box_world.specs.Possible.{StepCause, refusal}
+use Rattle.box_world.specs.declared.fault.StepFault.{StepFault}
+use Rattle.box_world.specs.Possible.{refusal}
 use Rattle.box_world.specs.Worlds.{run}
 use Rattle.update_replay.specs.Closings.{closing_lines}
 use Rattle.update_replay.specs.StepLines.{StepLines}
@@ -56,7 +57,7 @@ pub record Front (p : ProfileView) (n : ℕ) (seen : List ℕ) (k all : ℕ) (ou
 pub data Stop (p : ProfileView) (n : ℕ) (more : Bool) (ss : List Step) (at : ℕ) (left lines output : List ℕ) (ending : Ending) : Type 0 where
   by_bytes : (fault : WireFault) → NoStepFollows p more left fault → output ≡ lines → ending ≡ of_refusal more at fault → Stop p n more ss at left lines output ending
   by_count : (s : Step) (x rest : List ℕ) → BeginsStep p left s x rest → MAX_STEPS ≤ length ss → output ≡ lines → ending ≡ too_long at → Stop p n more ss at left lines output ending
-  by_cause : (s : Step) (x rest : List ℕ) (cause : StepCause) → BeginsStep p left s x rest → length ss < MAX_STEPS → refusal packet_size (run n ss) s ≡ Some cause → output ≡ lines → ending ≡ not_made at cause → Stop p n more ss at left lines output ending
+  by_cause : (s : Step) (x rest : List ℕ) (cause : StepFault) → BeginsStep p left s x rest → length ss < MAX_STEPS → refusal packet_size (run n ss) s ≡ Some cause → output ≡ lines → ending ≡ not_made at cause → Stop p n more ss at left lines output ending
   by_end : left ≡ [] → more ≡ false → output ≡ lines ++ closing_lines (n_run n ss) → ending ≡ whole (length ss) → Stop p n more ss at left lines output ending
 
 -- the run that a replay made
@@ -149,7 +150,7 @@ module _ (p : ProfileView) (good : IsProfile p) (n : ℕ) (seen : List ℕ) (are
 
   -- ---- how a run that can't go on ends
 
-  not_that : (ss : List Step) (left : List ℕ) → AreBytes left → (s : Step) (x rest : List ℕ) (cause : StepCause) → BeginsStep p left s x rest → refusal packet_size (run n ss) s ≡ Some cause → Goes p n ss left → ⊥
+  not_that : (ss : List Step) (left : List ℕ) → AreBytes left → (s : Step) (x rest : List ℕ) (cause : StepFault) → BeginsStep p left s x rest → refusal packet_size (run n ss) s ≡ Some cause → Goes p n ss left → ⊥
   not_that ss left bytes s x rest cause b is g =
       let same = steps_once p good left bytes s g.step x g.x rest g.rest b (g.follows).begins in
       none-some cause (sym (g.follows).possible ∙ ap (refusal packet_size (run n ss)) (sym same.0) ∙ is)
@@ -160,7 +161,7 @@ module _ (p : ProfileView) (good : IsProfile p) (n : ℕ) (seen : List ℕ) (are
   stuck more ss at left lines output ending bytes (by_cause s x rest cause b few is told e) g = not_that ss left bytes s x rest cause b is g
   stuck more ss at left lines output ending bytes (by_end empty stays told e) g = none_begins p left g.step g.x g.rest empty (g.follows).begins
 
-  same_cause : (left : List ℕ) → AreBytes left → (w : List Step) (s t : Step) (x y rest after : List ℕ) (a b : StepCause) → BeginsStep p left s x rest → BeginsStep p left t y after → refusal packet_size (run n w) s ≡ Some a → refusal packet_size (run n w) t ≡ Some b → a ≡ b
+  same_cause : (left : List ℕ) → AreBytes left → (w : List Step) (s t : Step) (x y rest after : List ℕ) (a b : StepFault) → BeginsStep p left s x rest → BeginsStep p left t y after → refusal packet_size (run n w) s ≡ Some a → refusal packet_size (run n w) t ≡ Some b → a ≡ b
   same_cause left bytes w s t x y rest after a b c d is at =
       same_Some a b (sym is ∙ ap (refusal packet_size (run n w)) (steps_once p good left bytes s t x y rest after c d).0 ∙ at)
 

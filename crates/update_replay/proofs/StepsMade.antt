@@ -17,7 +17,7 @@ use Rattle.update_world.specs.Outcomes.{outcome_of, post_outcome}
 use Rattle.update_world.specs.Shown.{Shown, StandsFor}
 use Rattle.update_world.specs.Spelled.{IsSpelled, packet_size}
 use Rattle.update_world.specs.Stepping.{Happens}
-use Rattle.update_world.specs.declared.fault.StepFault.{StepFault}
+use Rattle.box_world.specs.declared.fault.StepFault.{StepFault}
 use Rattle.tl_base.specs.declared.fault.Fault.{Fault}
 use Rattle.update_world.specs.declared.outcome.Outcome.{Outcome}
 use Rattle.update_world.proofs.Refusals.{named_client}

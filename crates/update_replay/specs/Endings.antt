@@ -6,9 +6,7 @@ use Rattle.tl_types.specs.declared.cause.Cause.{Cause}
 use Rattle.tl_types.specs.declared.cause.Cause.TheVariants.{Truncated}
 use Rattle.wire_profile.specs.declared.wire_fault.WireFault.{WireFault}
 use Rattle.wire_profile.specs.declared.wire_fault.WireFault.TheVariants as wire
-use Rattle.box_world.specs.Possible.{StepCause, no_client, no_packet, wrong_end, pool_full}
-use Rattle.update_world.specs.declared.fault.StepFault.{StepFault}
-use Rattle.update_world.specs.declared.fault.StepFault.TheVariants as step
+use Rattle.box_world.specs.declared.fault.StepFault.{StepFault}
 use Rattle.update_replay.specs.declared.fault.ReplayFault.{ReplayFault}
 use Rattle.update_replay.specs.declared.fault.ReplayFault.TheVariants.{Wire, Step, TooLong, ReadFault, Memory}
 
@@ -16,7 +14,7 @@ use Rattle.update_replay.specs.declared.fault.ReplayFault.TheVariants.{Wire, Ste
 pub data Ending : Type 0 where
   whole : ℕ → Ending
   no_step : ℕ → WireFault → Ending
-  not_made : ℕ → StepCause → Ending
+  not_made : ℕ → StepFault → Ending
   too_long : ℕ → Ending
 
 -- the bytes end inside an item
@@ -32,16 +30,10 @@ is_cut_short fault = false
 abbrev pub of_refusal : Bool → ℕ → WireFault → Ending
 of_refusal goes_on at fault = cond (goes_on && is_cut_short fault) (too_long at) (no_step at fault)
 
-abbrev pub fault_of : StepCause → StepFault
-fault_of (no_client n) = step.NoClient n
-fault_of (no_packet n) = step.NoPacket n
-fault_of (wrong_end n) = step.WrongEnd n
-fault_of (pool_full bytes) = step.PoolFull bytes
-
 abbrev pub answer_of : Ending → Result ℕ ReplayFault
 answer_of (whole n) = Ok n
 answer_of (no_step at fault) = Err (Wire at fault)
-answer_of (not_made at cause) = Err (Step at (fault_of cause))
+answer_of (not_made at cause) = Err (Step at cause)
 answer_of (too_long at) = Err (TooLong at)
 
 -- what a text that was not taken is to a replay

@@ -6,7 +6,9 @@ use Rattle.box_server.specs.Servers.{state_of}
 use Rattle.box_client.specs.Numbers.{client_numbers}
 use Rattle.box_client.specs.States.{ClientState}
 use Rattle.box_world.specs.NumberWorlds.{NumberWorld, numbers_of, n_happens, n_run}
-use Rattle.box_world.specs.Possible.{StepCause, no_client, no_packet, wrong_end, pool_full, bytes_in, refusal}
+use Rattle.box_world.specs.declared.fault.StepFault.{StepFault}
+use Rattle.box_world.specs.declared.fault.StepFault.TheVariants.{NoClient, NoPacket, PoolFull, WrongEnd}
+use Rattle.box_world.specs.Possible.{bytes_in, refusal}
 use Rattle.box_world.specs.Reached.{boxes_of}
 use Rattle.box_world.specs.Worlds.{Packet, World, run}
 use Rattle.report_lines.specs.Closing.{server_line}
@@ -48,15 +50,15 @@ DrawsAreSmall = (x : ℕ) → (drawn x < 2 ^ 64) × (draw_of x < 2 ^ 31)
 abbrev pub FirstDraw : Type 0
 FirstDraw = (drawn 1 ≡ 7806831264735756412) × (draw_of 1 ≡ 908834774) × (made_steps 1 1 ≡ Date 1 ∷ [])
 
-abbrev pub IsPoolFull : StepCause → Type 0
-IsPoolFull (no_client n) = ⊥
-IsPoolFull (no_packet n) = ⊥
-IsPoolFull (wrong_end n) = ⊥
-IsPoolFull (pool_full bytes) = Unit {0}
+abbrev pub IsPoolFull : StepFault → Type 0
+IsPoolFull (NoClient n) = ⊥
+IsPoolFull (NoPacket n) = ⊥
+IsPoolFull (WrongEnd n) = ⊥
+IsPoolFull (PoolFull bytes) = Unit {0}
 
 -- in a world with two clients a step that is made is refused for the pool's bytes alone
 abbrev pub MadeStepsAreRefusedByBytes : Type 0
-MadeStepsAreRefusedByBytes = (size : Packet → ℕ) (w : World) (n x : ℕ) (cause : StepCause) → length w.clients ≡ 2 → refusal size w (made_step (numbers_of w) n x).it ≡ Some cause → IsPoolFull cause
+MadeStepsAreRefusedByBytes = (size : Packet → ℕ) (w : World) (n x : ℕ) (cause : StepFault) → length w.clients ≡ 2 → refusal size w (made_step (numbers_of w) n x).it ≡ Some cause → IsPoolFull cause
 
 -- the server's clock is set one second on
 abbrev pub IsNextDate : ℕ → Step → Type 0

@@ -2,7 +2,9 @@
 use Rattle.std.specs.Prelude.{◌≡◌, ℕ, ◌+◌, List, [], ◌∷◌, Option, Some, None, Result, Ok, Err}
 use Rattle.box_events.specs.declared.steps.Step.{Step}
 use Rattle.box_world.specs.NumberWorlds.{n_run}
-use Rattle.box_world.specs.Possible.{StepCause, pool_full, refusal}
+use Rattle.box_world.specs.declared.fault.StepFault.{StepFault}
+use Rattle.box_world.specs.declared.fault.StepFault.TheVariants.{PoolFull}
+use Rattle.box_world.specs.Possible.{refusal}
 use Rattle.box_world.specs.Worlds.{World, happens, start}
 use Rattle.box_world.specs.Sizes.{step_size}
 use Rattle.update_replay.specs.Made.{made_steps}
@@ -14,10 +16,10 @@ use Rattle.update_replay.specs.declared.made_fault.MadeFault.TheVariants.{PoolFu
 -- a step of a journal that isn't possible: its offset, and why
 pub record Refusal : Type 0 where
   pub at : ℕ
-  pub cause : StepCause
+  pub cause : StepFault
 
 -- the step at this offset, or else a later one
-abbrev pub refused_or : Option StepCause → ℕ → Option Refusal → Option Refusal
+abbrev pub refused_or : Option StepFault → ℕ → Option Refusal → Option Refusal
 refused_or None at later = later
 refused_or (Some cause) at later = Some (record { at = at; cause = cause })
 
@@ -33,5 +35,5 @@ made_refusal number count = first_refused (start 2) 0 (made_steps number count)
 -- where each of its steps is possible, its summary is answered; else that the pool would be too full. Out of memory is free here.
 abbrev pub MakesRun : ℕ → ℕ → Result (List ℕ) MadeFault → Type 0
 MakesRun number count (Ok text) = (made_refusal number count ≡ None) × (text ≡ summary packet_size count (n_run 2 (made_steps number count)))
-MakesRun number count (Err (PoolFull at bytes)) = made_refusal number count ≡ Some (record { at = at; cause = pool_full bytes })
+MakesRun number count (Err (PoolFull at bytes)) = made_refusal number count ≡ Some (record { at = at; cause = PoolFull bytes })
 MakesRun number count (Err Memory) = Unit {0}

@@ -3,7 +3,8 @@ use Rattle.std.specs.Prelude.{◌≡◌, ℕ, ◌≤◌, ◌++◌, List, length,
 use Rattle.box_client.specs.Numbers.{client_numbers}
 use Rattle.box_events.specs.declared.steps.Step.{Step}
 use Rattle.box_server.specs.Servers.{state_of}
-use Rattle.box_world.specs.Possible.{pool_full, refusal}
+use Rattle.box_world.specs.declared.fault.StepFault.TheVariants.{PoolFull}
+use Rattle.box_world.specs.Possible.{refusal}
 use Rattle.box_world.specs.Worlds.{World, happens, run}
 use Rattle.box_world.specs.Sizes.{step_size}
 use Rattle.report_lines.specs.Closing.{server_line}
@@ -29,13 +30,13 @@ pub record Goes (w : World) (chosen : Chosen Step) (n : ℕ) (new : Shown) (x : 
 -- in a world and at an offset of the journal: it happens, or there is no place for what it sends
 abbrev pub GoesOn : World → ℕ → Chosen Step → Result ℕ MadeFault → Shown → ℕ → Type 0
 GoesOn w at chosen (Ok size) new x = Goes w chosen size new x
-GoesOn w at chosen (Err (PoolFull place bytes)) new x = (place ≡ at) × (refusal packet_size w chosen.it ≡ Some (pool_full bytes))
+GoesOn w at chosen (Err (PoolFull place bytes)) new x = (place ≡ at) × (refusal packet_size w chosen.it ≡ Some (PoolFull bytes))
 GoesOn w at chosen (Err Memory) new x = Unit {0}
 
 -- all of them happen, so that the schema, if it was asked, is a profile's; or one isn't possible
 abbrev pub GoesThrough : ℕ → ℕ → Result (Unit {0}) MadeFault → Shown → Type 0
 GoesThrough number count (Ok done) new = (made_refusal number count ≡ None) × StandsFor new (run 2 (made_steps number count)) × (new.spoiled ≡ None) × (1 ≤ count → IsProfile new.profile)
-GoesThrough number count (Err (PoolFull at bytes)) new = made_refusal number count ≡ Some (record { at = at; cause = pool_full bytes })
+GoesThrough number count (Err (PoolFull at bytes)) new = made_refusal number count ≡ Some (record { at = at; cause = PoolFull bytes })
 GoesThrough number count (Err Memory) new = Unit {0}
 
 -- the summary of what is shown of a world

@@ -10,7 +10,9 @@ use Rattle.box_wire.specs.Framing.{Means}
 use Rattle.box_wire.specs.StepReading.{StepRefused}
 use Rattle.box_server.specs.Servers.{new_server}
 use Rattle.box_world.specs.NumberWorlds.{n_run}
-use Rattle.box_world.specs.Possible.{StepCause, pool_full, refusal}
+use Rattle.box_world.specs.declared.fault.StepFault.{StepFault}
+use Rattle.box_world.specs.declared.fault.StepFault.TheVariants.{PoolFull}
+use Rattle.box_world.specs.Possible.{refusal}
 use Rattle.box_world.specs.Worlds.{run, new_clients}
 use Rattle.update_replay.specs.Closings.{closing_lines}
 use Rattle.update_replay.specs.StepLines.{StepLines}
@@ -18,7 +20,7 @@ use Rattle.update_world.specs.Shown.{Shown, StandsFor}
 use Rattle.update_world.specs.Spelled.{IsSpelled, packet_size}
 use Rattle.update_replay.specs.Endings.{Ending, whole, not_made, too_long, answer_of, of_refusal}
 use Rattle.update_replay.specs.declared.fault.ReplayFault.{ReplayFault}
-use Rattle.update_replay.specs.declared.fault.ReplayFault.TheVariants.{Wire, Step as StepFault, TooLong, ReadFault, WriteFault, Memory}
+use Rattle.update_replay.specs.declared.fault.ReplayFault.TheVariants.{Wire, Step as NotMade, TooLong, ReadFault, WriteFault, Memory}
 use Rattle.update_replay.specs.declared.limits.TheConstants.{MAX_JOURNAL_BYTES, MAX_STEPS}
 
 -- ---- a journal
@@ -58,7 +60,7 @@ NoStepFollows p more left fault = StepRefused p left fault × ((0 < length left)
 pub data Replays (p : ProfileView) (n : ℕ) (seen : List ℕ) (more : Bool) (ss : List Step) (output : List ℕ) (ending : Ending) : Type 0 where
   no_step_follows : (at : ℕ) (left : List ℕ) (fault : WireFault) → Began p n seen ss at left output → NoStepFollows p more left fault → ending ≡ of_refusal more at fault → Replays p n seen more ss output ending
   one_too_many : (at : ℕ) (left : List ℕ) (s : Step) (x rest : List ℕ) → Began p n seen ss at left output → BeginsStep p left s x rest → MAX_STEPS ≤ length ss → ending ≡ too_long at → Replays p n seen more ss output ending
-  not_possible : (at : ℕ) (left : List ℕ) (s : Step) (x rest : List ℕ) (cause : StepCause) → Began p n seen ss at left output → BeginsStep p left s x rest → length ss < MAX_STEPS
+  not_possible : (at : ℕ) (left : List ℕ) (s : Step) (x rest : List ℕ) (cause : StepFault) → Began p n seen ss at left output → BeginsStep p left s x rest → length ss < MAX_STEPS
       → refusal packet_size (run n ss) s ≡ Some cause → ending ≡ not_made at cause → Replays p n seen more ss output ending
   at_its_end : (at : ℕ) (lines : List ℕ) → Began p n seen ss at [] lines → more ≡ false → output ≡ lines ++ closing_lines (n_run n ss) → ending ≡ whole (length ss) → Replays p n seen more ss output ending
 
@@ -96,7 +98,7 @@ pub record StandsAfter (p : ProfileView) (n : ℕ) (s : Shown) (ss : List Step) 
 
 -- which it does but after a step for which the pool is too small
 abbrev pub StandsThen : Ending → ProfileView → ℕ → Shown → List Step → Type 0
-StandsThen (not_made at (pool_full bytes)) p n s ss = Unit {0}
+StandsThen (not_made at (PoolFull bytes)) p n s ss = Unit {0}
 StandsThen ending p n s ss = StandsAfter p n s ss
 
 -- a replay came to its ending, and that is answered
@@ -111,7 +113,7 @@ pub record Settles (p : ProfileView) (n : ℕ) (seen : List ℕ) (more : Bool) (
 abbrev pub Ends : ProfileView → ℕ → List ℕ → Bool → Shown → List ℕ → Result ℕ ReplayFault → Type 0
 Ends p n seen more s output (Ok k) = Settles p n seen more s output (Ok k)
 Ends p n seen more s output (Err (Wire at fault)) = Settles p n seen more s output (Err (Wire at fault))
-Ends p n seen more s output (Err (StepFault at fault)) = Settles p n seen more s output (Err (StepFault at fault))
+Ends p n seen more s output (Err (NotMade at fault)) = Settles p n seen more s output (Err (NotMade at fault))
 Ends p n seen more s output (Err (TooLong at)) = Settles p n seen more s output (Err (TooLong at))
 Ends p n seen more s output (Err ReadFault) = (output ≡ []) × StandsAfter p n s []
 Ends p n seen more s output (Err WriteFault) = Stopped p n seen more output

@@ -1,8 +1,8 @@
 //! Why lines are not written, and why a replay stops before its journal's end.
+use box_world::StepFault;
 use std::alloc::AllocError;
 use thiserror::Error;
 use tl_base::{TextFault, WriteFault};
-use update_world::StepFault;
 use wire_profile::WireFault;
 
 /// Why lines are not written. A prefix of them may be.

@@ -17,9 +17,10 @@ use crate::made_fault::MadeFault;
 use crate::summary::summary_of;
 use box_events::Step;
 use box_wire::spell_step;
+use box_world::StepFault;
 use std::alloc::Global;
 use tl_base::{Bytes, Fault, Memory};
-use update_world::{StepFault, World};
+use update_world::World;
 use wire_profile::Profile;
 
 /// A made run has so many steps at most, as a journal has.

@@ -20,12 +20,13 @@ use Rattle.box_client.specs.Calls.{WatchesOne}
 use Rattle.wire_profile.specs.Indexes.{ProfileView}
 use Rattle.wire_profile.specs.Profiles.{IsProfile}
 use Rattle.box_world.specs.Worlds.{Packet, request, World, asks, client_steps, goes_on, happens, watches}
-use Rattle.box_world.specs.Possible.{client_of, no_client, past}
+use Rattle.box_world.specs.declared.fault.StepFault.TheVariants.{NoClient}
+use Rattle.box_world.specs.Possible.{client_of, past}
 use Rattle.box_world.specs.Sizes.{call_size}
 use Rattle.box_world.specs.Fitting.{CallFits}
 use Rattle.box_world.proofs.AsksFit.{asks_fit}
 use Rattle.box_world.proofs.PushesBelow.{asks_below}
-use Rattle.update_world.specs.declared.fault.StepFault.{StepFault}
+use Rattle.box_world.specs.declared.fault.StepFault.{StepFault}
 use Rattle.tl_base.specs.declared.fault.Fault.{Fault}
 use Rattle.tl_base.specs.declared.fault.Fault.TheVariants.{Memory}
 use Rattle.update_world.specs.declared.limits.TheConstants.{MAX_POOL_BYTES}
@@ -61,8 +62,8 @@ client_done p a b s w k f c d o steady st r is at made server clients pool told 
     (ap (λ (v : World). v.server) now ∙ st.server ∙ sym server)
     (ap (λ (v : World). v.clients) now ∙ (λ i. set (st.clients i) k (sym made i)) ∙ sym clients) told
 
-is_there : (p : ProfileView) (a : WorldParts) (w : World) (k : ℕ) → StandsFor (shown_by p a) w → k < length a.clients.items → past no_client (length w.clients) (Some k) ≡ None
-is_there p a w k st lt = there no_client (length w.clients) k (subst (λ (n : ℕ). k < n) (sym (ap length st.clients)) lt)
+is_there : (p : ProfileView) (a : WorldParts) (w : World) (k : ℕ) → StandsFor (shown_by p a) w → k < length a.clients.items → past NoClient (length w.clients) (Some k) ≡ None
+is_there p a w k st lt = there NoClient (length w.clients) k (subst (λ (n : ℕ). k < n) (sym (ap length st.clients)) lt)
 
 pub wake_done : (p : ProfileView) (a b : WorldParts) (w : World) (k : ℕ) (c d : ClientState) → IsSteady (shown_by p a) → StandsFor (shown_by p a) w → k < length a.clients.items → slice_get a.clients.items k ≡ Some c → d ≡ wakes c
     → b.server ≡ a.server → b.clients.items ≡ set a.clients.items k d → b.pool ≡ a.pool → Happens (shown_by p a) (step.Wake k) w (Ok (outcome.Woken k)) (shown_after p b (Ok (outcome.Woken k)))

@@ -4,10 +4,11 @@ use Rattle.box_events.specs.declared.steps.Step.{Step}
 use Rattle.wire_profile.specs.Indexes.{ProfileView}
 use Rattle.wire_profile.specs.Profiles.{IsProfile}
 use Rattle.box_world.specs.Worlds.{Packet, World, happens}
-use Rattle.box_world.specs.Possible.{StepCause, no_client, no_packet, wrong_end, pool_full, bytes_in, client_of, packet_of, past, goes_wrong, refusal}
-use Rattle.update_world.specs.declared.fault.StepFault.{StepFault}
+use Rattle.box_world.specs.declared.fault.StepFault.TheVariants.{NoClient, NoPacket, PoolFull, WrongEnd}
+use Rattle.box_world.specs.Possible.{bytes_in, client_of, packet_of, past, goes_wrong, refusal}
+use Rattle.box_world.specs.declared.fault.StepFault.{StepFault}
 use Rattle.tl_base.specs.declared.fault.Fault.{Fault}
-use Rattle.update_world.specs.declared.fault.StepFault.TheVariants.{NoClient, NoPacket, WrongEnd, PoolFull}
+use Rattle.box_world.specs.declared.fault.StepFault.TheVariants.{NoClient, NoPacket, WrongEnd, PoolFull}
 use Rattle.tl_base.specs.declared.fault.Fault.TheVariants.{Refused, Memory}
 use Rattle.update_world.specs.declared.limits.TheConstants.{MAX_POOL_BYTES}
 use Rattle.update_world.specs.declared.outcome.Outcome.{Outcome}
@@ -39,7 +40,7 @@ pub overfilled : (p : ProfileView) → IsProfile p → (a b : WorldParts) (s : S
     → Happens (shown_by p a) s w (Err (Refused (PoolFull n))) (shown_after p b (Err (Refused (PoolFull n))))
 overfilled p is a b s w n ss r sent sum lt =
     let same : n ≡ bytes_in packet_size (happens w s).pool = sum ∙ sent_bytes p is ss (happens w s).pool sent in
-    (too_full packet_size w s r (subst (λ (m : ℕ). MAX_POOL_BYTES < m) same lt) ∙ ap (λ (m : ℕ). Some (pool_full m)) (sym same), refl)
+    (too_full packet_size w s r (subst (λ (m : ℕ). MAX_POOL_BYTES < m) same lt) ∙ ap (λ (m : ℕ). Some (PoolFull m)) (sym same), refl)
 
 -- packets of a step that reaches them are not sent
 pub unsent : (p : ProfileView) → IsProfile p → (a b : WorldParts) (s : Step) (w : World) (old more new : List SentPacket) (e : Fault StepFault) → Reaches w s → AreSent p (old ++ more) (happens w s).pool → Sends old more (Err e) new

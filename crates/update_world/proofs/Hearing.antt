@@ -23,12 +23,13 @@ use Rattle.box_client.specs.States.{ClientState}
 use Rattle.box_client.specs.Replies.{Outcome, ignored, refuses, becomes, brings, by_channels, channel_replied, group_replied, group_taken, group_woven, nothing_new, replied}
 use Rattle.wire_profile.specs.Indexes.{ProfileView}
 use Rattle.box_world.specs.Worlds.{Packet, push, request, reply, World, after_reply, goes_on, happens, heard, received, run}
-use Rattle.box_world.specs.Possible.{is_for, no_client, no_packet, wrong, wrong_end, past}
+use Rattle.box_world.specs.declared.fault.StepFault.TheVariants.{NoClient, NoPacket, WrongEnd}
+use Rattle.box_world.specs.Possible.{is_for, wrong, past}
 use Rattle.report_lines.specs.declared.heard.HeardAs.{HeardAs}
 use Rattle.report_lines.specs.declared.heard.HeardAs.TheVariants as told
-use Rattle.update_world.specs.declared.fault.StepFault.{StepFault}
+use Rattle.box_world.specs.declared.fault.StepFault.{StepFault}
 use Rattle.tl_base.specs.declared.fault.Fault.{Fault}
-use Rattle.update_world.specs.declared.fault.StepFault.TheVariants.{NoClient, NoPacket, WrongEnd, PoolFull}
+use Rattle.box_world.specs.declared.fault.StepFault.TheVariants.{NoClient, NoPacket, WrongEnd, PoolFull}
 use Rattle.tl_base.specs.declared.fault.Fault.TheVariants.{Refused, Memory}
 use Rattle.update_world.specs.declared.limits.TheConstants.{MAX_POOL_BYTES}
 use Rattle.update_world.specs.declared.outcome.Outcome.TheVariants as outcome
@@ -191,8 +192,8 @@ hear_done p a b w k m f c d heard_so steady st h at is as_told server clients po
     let now : happens w (step.Hear k m) ≡ goes_on w k (received k c x.message) = λ i. heard w k (cl i) (x.there i) in
     stays p steady.profile a b (step.Hear k m) w (outcome.Heard k heard_so)
     (record {
-      client = there no_client (length w.clients) k (slice_get_within w.clients k c cl);
-      packet = there no_packet (length w.pool) m (slice_get_within w.pool m x.message x.there);
+      client = there NoClient (length w.clients) k (slice_get_within w.clients k c cl);
+      packet = there NoPacket (length w.pool) m (slice_get_within w.pool m x.message x.there);
       right = ap (λ (o : Option Packet). wrong (is_for k o) m) x.there ∙ ap (λ (t : Bool). wrong t m) x.to;
     }) st steady.most (ap (λ (v : World). v.pool) now) pool
     (ap (λ (v : World). v.server) now ∙ st.server ∙ sym server)
@@ -213,12 +214,12 @@ hear_refused p a b w k m (Refused (NoClient n)) st lt h same = absurd h
 hear_refused p a b w k m (Refused (NoPacket n)) st lt h same =
     let cl : k < length w.clients = subst (λ (n : ℕ). k < n) (sym (ap length st.clients)) lt in
     let far : length w.pool ≤ m = subst (λ (n : ℕ). n ≤ m) (sent_length p a.pool w.pool st.pool) h.1 in
-    (far_packet packet_size w (step.Hear k m) m (there no_client (length w.clients) k cl) refl far ∙ ap (λ (n : ℕ). Some (no_packet n)) (sym h.0), ap (shown_by p) same)
+    (far_packet packet_size w (step.Hear k m) m (there NoClient (length w.clients) k cl) refl far ∙ ap (λ (n : ℕ). Some (NoPacket n)) (sym h.0), ap (shown_by p) same)
 hear_refused p a b w k m (Refused (WrongEnd n)) st lt h same =
     let cl : k < length w.clients = subst (λ (n : ℕ). k < n) (sym (ap length st.clients)) lt in
     let g = sent_get p a.pool w.pool st.pool m h.1.sent h.1.there in
     let to : is_for k (slice_get w.pool m) ≡ false = ap (is_for k) g.1 ∙ not_for p k h.1.sent g.0 h.1.to g.2 in (
-      wrong_packet packet_size w (step.Hear k m) (wrong_end m) (there no_client (length w.clients) k cl) (there no_packet (length w.pool) m (slice_get_within w.pool m g.0 g.1)) (ap (λ (t : Bool). wrong t m) to) ∙ ap (λ (n : ℕ). Some (wrong_end n)) (sym h.0),
+      wrong_packet packet_size w (step.Hear k m) (WrongEnd m) (there NoClient (length w.clients) k cl) (there NoPacket (length w.pool) m (slice_get_within w.pool m g.0 g.1)) (ap (λ (t : Bool). wrong t m) to) ∙ ap (λ (n : ℕ). Some (WrongEnd n)) (sym h.0),
       ap (shown_by p) same,
     )
 hear_refused p a b w k m (Refused (PoolFull n)) st lt h same = absurd h

@@ -25,7 +25,7 @@ use Rattle.box_world.specs.Fitting.{FrameFits}
 use Rattle.box_world.specs.Sizes.{frame_size}
 use Rattle.box_world.proofs.PushesBelow.{pushes_below}
 use Rattle.box_world.proofs.PushesFit.{pushes_fit}
-use Rattle.update_world.specs.declared.fault.StepFault.{StepFault}
+use Rattle.box_world.specs.declared.fault.StepFault.{StepFault}
 use Rattle.tl_base.specs.declared.fault.Fault.{Fault}
 use Rattle.update_world.specs.declared.limits.TheConstants.{MAX_POOL_BYTES}
 use Rattle.update_world.specs.declared.outcome.Outcome.{Outcome}

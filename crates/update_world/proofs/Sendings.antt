@@ -9,7 +9,7 @@ use Rattle.wire_values.specs.Frames.{frame_tree}
 use Rattle.box_wire.specs.Framing.{Framed}
 use Rattle.box_wire.specs.Kinds.{frames}
 use Rattle.box_world.specs.Worlds.{Packet, request, World, happens}
-use Rattle.update_world.specs.declared.fault.StepFault.{StepFault}
+use Rattle.box_world.specs.declared.fault.StepFault.{StepFault}
 use Rattle.tl_base.specs.declared.fault.Fault.{Fault}
 use Rattle.tl_base.specs.declared.fault.Fault.TheVariants.{Memory}
 use Rattle.update_world.specs.declared.limits.TheConstants.{MAX_POOL_BYTES}

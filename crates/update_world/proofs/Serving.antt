@@ -28,16 +28,17 @@ use Rattle.wire_profile.proofs.RuleFacts.{clear_of_call, number_is}
 use Rattle.tl_types.specs.Values.{ValueViews, values_of}
 use Rattle.wire_values.specs.Calls.{request_tree}
 use Rattle.box_world.specs.Worlds.{Packet, push, request, reply, World, served, happens, channel_too_long, run}
-use Rattle.box_world.specs.Possible.{is_served, wrong, no_packet, wrong_end, past}
+use Rattle.box_world.specs.declared.fault.StepFault.TheVariants.{NoPacket, WrongEnd}
+use Rattle.box_world.specs.Possible.{is_served, wrong, past}
 use Rattle.box_world.specs.Sizes.{frame_size}
 use Rattle.box_world.specs.Fitting.{CallFits, FrameFits, IsNumber}
 use Rattle.box_world.proofs.AnswersFit.{answers_fit}
 use Rattle.box_world.proofs.AnswersBelow.{answers_below}
 use Rattle.box_world.proofs.PushesBelow.{warnings_below}
 use Rattle.box_world.proofs.PushesFit.{warnings_fit}
-use Rattle.update_world.specs.declared.fault.StepFault.{StepFault}
+use Rattle.box_world.specs.declared.fault.StepFault.{StepFault}
 use Rattle.tl_base.specs.declared.fault.Fault.{Fault}
-use Rattle.update_world.specs.declared.fault.StepFault.TheVariants.{NoClient, NoPacket, WrongEnd, PoolFull}
+use Rattle.box_world.specs.declared.fault.StepFault.TheVariants.{NoClient, NoPacket, WrongEnd, PoolFull}
 use Rattle.tl_base.specs.declared.fault.Fault.TheVariants.{Refused, Memory}
 use Rattle.update_world.specs.declared.outcome.Outcome.TheVariants as outcome
 use Rattle.update_world.specs.declared.parts.WorldParts.{WorldParts}
@@ -91,7 +92,7 @@ numbered n fits =
 reaches_call : (w : World) (m k : ℕ) (n : Numbered) → slice_get w.pool m ≡ Some (request k n) → Reaches w (step.Serve m)
 reaches_call w m k n at = record {
   client = refl;
-  packet = there no_packet (length w.pool) m (slice_get_within w.pool m (request k n) at);
+  packet = there NoPacket (length w.pool) m (slice_get_within w.pool m (request k n) at);
   right = ap (λ (o : Option Packet). wrong (is_served o) m) at;
 }
 
@@ -141,11 +142,11 @@ pub serve_refused : (p : ProfileView) (a b : WorldParts) (w : World) (m : ℕ) (
 serve_refused p a b w m (Refused (NoClient n)) st h same = absurd h
 serve_refused p a b w m (Refused (NoPacket n)) st h same =
     let far : length w.pool ≤ m = subst (λ (k : ℕ). k ≤ m) (sent_length p a.pool w.pool st.pool) h.1 in
-    (far_packet packet_size w (step.Serve m) m refl refl far ∙ ap (λ (k : ℕ). Some (no_packet k)) (sym h.0), ap (shown_by p) same)
+    (far_packet packet_size w (step.Serve m) m refl refl far ∙ ap (λ (k : ℕ). Some (NoPacket k)) (sym h.0), ap (shown_by p) same)
 serve_refused p a b w m (Refused (WrongEnd n)) st h same =
     let g = sent_get p a.pool w.pool st.pool m h.1.sent h.1.there in
     let to : is_served (slice_get w.pool m) ≡ false = ap is_served g.1 ∙ not_served p h.1.sent g.0 h.1.to g.2 in (
-      wrong_packet packet_size w (step.Serve m) (wrong_end m) refl (there no_packet (length w.pool) m (slice_get_within w.pool m g.0 g.1)) (ap (λ b. wrong b m) to) ∙ ap (λ (k : ℕ). Some (wrong_end k)) (sym h.0),
+      wrong_packet packet_size w (step.Serve m) (WrongEnd m) refl (there NoPacket (length w.pool) m (slice_get_within w.pool m g.0 g.1)) (ap (λ b. wrong b m) to) ∙ ap (λ (k : ℕ). Some (WrongEnd k)) (sym h.0),
       ap (shown_by p) same,
     )
 serve_refused p a b w m (Refused (PoolFull n)) st h same = absurd h

@@ -22,9 +22,9 @@ use Rattle.box_wire.specs.StepReading.{IsDated}
 use Rattle.box_world.specs.Worlds.{Packet, push, request, reply, World, asks, client_steps, happens, heard, new_clients, post_by, run, served, start, watches}
 use Rattle.box_world.specs.Possible.{AllPossible, bytes_in, refusal}
 use Rattle.box_world.proofs.OneMore.{clients_stay, possible_go_on, runs_go_on}
-use Rattle.update_world.specs.declared.fault.StepFault.{StepFault}
+use Rattle.box_world.specs.declared.fault.StepFault.{StepFault}
 use Rattle.tl_base.specs.declared.fault.Fault.{Fault}
-use Rattle.update_world.specs.declared.fault.StepFault.TheVariants.{NoClient, NoPacket, WrongEnd, PoolFull}
+use Rattle.box_world.specs.declared.fault.StepFault.TheVariants.{NoClient, NoPacket, WrongEnd, PoolFull}
 use Rattle.tl_base.specs.declared.fault.Fault.TheVariants.{Refused, Memory}
 use Rattle.update_world.specs.declared.limits.TheConstants.{MAX_POOL_BYTES}
 use Rattle.update_world.specs.declared.outcome.Outcome.{Outcome}

@@ -6,7 +6,7 @@ use Rattle.box_client.specs.States.{ClientState}
 use Rattle.wire_profile.specs.Indexes.{ProfileView}
 use Rattle.box_world.specs.Worlds.{World, start, run}
 use Rattle.box_world.specs.Possible.{AllPossible}
-use Rattle.update_world.specs.declared.fault.StepFault.{StepFault}
+use Rattle.box_world.specs.declared.fault.StepFault.{StepFault}
 use Rattle.tl_base.specs.declared.fault.Fault.{Fault}
 use Rattle.update_world.specs.declared.sent.SentPacket.{SentPacket}
 use Rattle.update_world.specs.Spelled.{AreSent, packet_size}

@@ -2,10 +2,11 @@
 use Rattle.std.specs.Prelude.{◌≡◌, Option, Some, None, Result, Ok, Err}
 use Rattle.box_events.specs.declared.steps.Step.{Step}
 use Rattle.box_world.specs.Worlds.{World, happens}
-use Rattle.box_world.specs.Possible.{no_client, no_packet, wrong_end, pool_full, refusal}
-use Rattle.update_world.specs.declared.fault.StepFault.{StepFault}
+use Rattle.box_world.specs.declared.fault.StepFault.TheVariants.{NoClient, NoPacket, PoolFull, WrongEnd}
+use Rattle.box_world.specs.Possible.{refusal}
+use Rattle.box_world.specs.declared.fault.StepFault.{StepFault}
 use Rattle.tl_base.specs.declared.fault.Fault.{Fault}
-use Rattle.update_world.specs.declared.fault.StepFault.TheVariants.{NoClient, NoPacket, WrongEnd, PoolFull}
+use Rattle.box_world.specs.declared.fault.StepFault.TheVariants.{NoClient, NoPacket, WrongEnd, PoolFull}
 use Rattle.tl_base.specs.declared.fault.Fault.TheVariants.{Refused, Memory}
 use Rattle.update_world.specs.declared.outcome.Outcome.{Outcome}
 use Rattle.update_world.specs.Outcomes.{outcome_of}
@@ -16,10 +17,10 @@ use Rattle.update_world.specs.Spelled.{packet_size}
 -- after which all is as before, but for a pool that would be too full. That, and out of memory, spoil it.
 abbrev pub Happens : Shown → Step → World → Result Outcome (Fault StepFault) → Shown → Type 0
 Happens old s w (Ok outcome) new = (refusal packet_size w s ≡ None) × (outcome ≡ outcome_of w s) × StandsFor new (happens w s) × (new.spoiled ≡ None)
-Happens old s w (Err (Refused (NoClient n))) new = (refusal packet_size w s ≡ Some (no_client n)) × (new ≡ old)
-Happens old s w (Err (Refused (NoPacket n))) new = (refusal packet_size w s ≡ Some (no_packet n)) × (new ≡ old)
-Happens old s w (Err (Refused (WrongEnd n))) new = (refusal packet_size w s ≡ Some (wrong_end n)) × (new ≡ old)
-Happens old s w (Err (Refused (PoolFull bytes))) new = (refusal packet_size w s ≡ Some (pool_full bytes)) × (new.spoiled ≡ Some (Refused (PoolFull bytes)))
+Happens old s w (Err (Refused (NoClient n))) new = (refusal packet_size w s ≡ Some (NoClient n)) × (new ≡ old)
+Happens old s w (Err (Refused (NoPacket n))) new = (refusal packet_size w s ≡ Some (NoPacket n)) × (new ≡ old)
+Happens old s w (Err (Refused (WrongEnd n))) new = (refusal packet_size w s ≡ Some (WrongEnd n)) × (new ≡ old)
+Happens old s w (Err (Refused (PoolFull bytes))) new = (refusal packet_size w s ≡ Some (PoolFull bytes)) × (new.spoiled ≡ Some (Refused (PoolFull bytes)))
 Happens old s w (Err Memory) new = new.spoiled ≡ Some Memory
 
 -- a spoiled world answers its refusal again, and stays as it is

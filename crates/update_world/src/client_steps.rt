@@ -6,13 +6,13 @@ ghost use Rattle.box_world.specs.Fitting.{IsHearable};
 ghost use Rattle.update_world.specs.inner.Delivering.{IsTaken, after_frame, frame_as};
 ghost use Rattle.update_world.specs.inner.Making.{IsSteady, Makes, shown_by};
 
-use crate::fault::StepFault;
 use crate::outcome::Outcome;
 use crate::parts::WorldParts;
 use crate::reading::frame_for;
 use crate::spelling::send_calls;
 use box_client::{Client, ReplyOutcome};
 use box_events::{Asks, Frame};
+use box_world::StepFault;
 use channel_box::WatchFault;
 use report_lines::HeardAs;
 use std::alloc::{AllocError, Global};

@@ -2,7 +2,6 @@
 #![tactic(auto)]
 
 mod client_steps;
-mod fault;
 mod limits;
 mod outcome;
 mod parts;
@@ -13,7 +12,6 @@ mod server_steps;
 mod spelling;
 mod world;
 
-pub use fault::StepFault;
 pub use limits::{MAX_CLIENTS, MAX_POOL_BYTES};
 pub use outcome::Outcome;
 pub use report_lines::HeardAs;

@@ -6,9 +6,9 @@ ghost use Rattle.update_world.specs.declared.limits.TheConstants.{MAX_POOL_BYTES
 ghost use Rattle.update_world.specs.Shown.{bytes_of};
 ghost use Rattle.update_world.specs.inner.Pools.{IsPacket, Sends};
 
-use crate::fault::StepFault;
 use crate::limits::MAX_POOL_BYTES;
 use crate::sent::SentPacket;
+use box_world::StepFault;
 use std::alloc::Global;
 use std::marker::Model;
 use tl_base::Fault;

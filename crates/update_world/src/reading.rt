@@ -6,11 +6,11 @@ ghost use Rattle.wire_profile.specs.Profiles.{IsProfile};
 ghost use Rattle.box_world.specs.Fitting.{IsHearable};
 ghost use Rattle.update_world.specs.inner.Reading.{AsksFrom, CarriesCall, CarriesFrame, FrameFor, HasCall, HasFrame, StandFor, hears};
 
-use crate::fault::StepFault;
 use crate::pool::Pool;
 use crate::sent::End;
 use box_events::{Frame, Numbered};
 use box_wire::{Fault, read_call, read_frame};
+use box_world::StepFault;
 use std::alloc::{AllocError, Global};
 use tl_base::Memory;
 use wire_profile::{Profile, WireFault};

@@ -4,7 +4,6 @@ ghost use Rattle.box_events.specs.declared.steps.Step.TheVariants as step;
 ghost use Rattle.wire_profile.specs.Indexes.{ProfileView};
 ghost use Rattle.update_world.specs.inner.Making.{IsSteady, Makes, shown_by};
 
-use crate::fault::StepFault;
 use crate::outcome::Outcome;
 use crate::parts::WorldParts;
 use crate::reading::asked_by;
@@ -12,6 +11,7 @@ use crate::sent::End;
 use crate::spelling::send_frame;
 use box_events::{Frame, ListOf, Post, Push, Update};
 use box_server::PostFault;
+use box_world::StepFault;
 use std::alloc::Global;
 use tl_base::Fault;
 use wire_profile::Profile;

@@ -10,11 +10,11 @@ ghost use Rattle.box_wire.specs.Kinds.{calls, frames};
 ghost use Rattle.box_world.specs.Sizes.{call_size, frame_size};
 ghost use Rattle.update_world.specs.inner.Sending.{SendsCalls, SendsFrame};
 
-use crate::fault::StepFault;
 use crate::pool::Pool;
 use crate::sent::{End, SentPacket};
 use box_events::{Asks, Frame, Numbered};
 use box_wire::{SpellFault, spell_call, spell_frame};
+use box_world::StepFault;
 use std::alloc::{AllocError, Global};
 use tl_base::{Bytes, Fault, Memory};
 use wire_profile::Profile;

@@ -11,7 +11,6 @@ ghost use Rattle.update_world.specs.declared.limits.TheConstants.{MAX_CLIENTS, M
 ghost use Rattle.update_world.specs.inner.Making.{IsSteady, Makes, shown_by, spoil_of};
 
 use crate::client_steps::{hear, restart, tick, wake, watch};
-use crate::fault::StepFault;
 use crate::limits::MAX_CLIENTS;
 use crate::outcome::Outcome;
 use crate::parts::WorldParts;
@@ -21,6 +20,7 @@ use crate::server_steps::{channel_too_long, date, post, serve, too_long};
 use box_client::Client;
 use box_events::{State, Step};
 use box_server::Server;
+use box_world::StepFault;
 use std::alloc::{AllocError, Global};
 use std::marker::Model;
 use tl_base::{Fault, Memory};

@@ -9,9 +9,9 @@ use Rattle.box_wire.specs.Framing.{Framed}
 use Rattle.box_wire.specs.Kinds.{calls, frames}
 use Rattle.box_world.specs.Worlds.{Packet}
 use Rattle.box_world.specs.Fitting.{CallFits, FrameFits, IsHearable}
-use Rattle.update_world.specs.declared.fault.StepFault.{StepFault}
+use Rattle.box_world.specs.declared.fault.StepFault.{StepFault}
 use Rattle.tl_base.specs.declared.fault.Fault.{Fault}
-use Rattle.update_world.specs.declared.fault.StepFault.TheVariants.{NoClient, NoPacket, WrongEnd, PoolFull}
+use Rattle.box_world.specs.declared.fault.StepFault.TheVariants.{NoClient, NoPacket, WrongEnd, PoolFull}
 use Rattle.tl_base.specs.declared.fault.Fault.TheVariants.{Refused, Memory}
 use Rattle.update_world.specs.declared.reading.Asked.{Asked}
 use Rattle.update_world.specs.declared.sent.SentPacket.{SentPacket}

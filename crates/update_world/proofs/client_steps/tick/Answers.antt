@@ -7,7 +7,7 @@ use Rattle.box_events.specs.declared.requests.Numbered.{Numbered}
 use Rattle.box_events.specs.declared.steps.Step.TheVariants as step
 use Rattle.box_client.specs.Asking.{ticks}
 use Rattle.box_world.specs.Sizes.{call_size}
-use Rattle.update_world.specs.declared.fault.StepFault.{StepFault}
+use Rattle.box_world.specs.declared.fault.StepFault.{StepFault}
 use Rattle.tl_base.specs.declared.fault.Fault.{Fault}
 use Rattle.update_world.specs.inner.Making.{shown_by}
 use Rattle.update_world.specs.inner.Sending.{SendsCalls}
