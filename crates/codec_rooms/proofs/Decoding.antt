@@ -18,8 +18,8 @@ use Rattle.outside.specs.Events.{Event, HostState, opened}
 use Rattle.outside.specs.Printing.{Answers, Prints, PrintsMade, after_output}
 use Rattle.outside.specs.Begun.{Did, WritesOnly}
 use Rattle.outside.specs.Steps.{Begins, Then}
-use Rattle.outside.proofs.Growing.{did_none, did_stop, did_then}
-use Rattle.outside.proofs.Piecewise.{can_tell, can_write}
+use Rattle.outside.proofs.Growing.{did_stop, did_then}
+use Rattle.outside.proofs.Piecewise.{can_tell}
 use Rattle.outside.proofs.Printed.{can_print, made_printed}
 use Rattle.codec_rooms.proofs.InputRead.{keeps_value}
 use Rattle.codec_rooms.specs.Decode.{Verdict, ReadsValue, answer_of, printed, after_reading, verdict, OfBytes}
@@ -82,10 +82,6 @@ line_done state start first next last given f h a b line whole fine none is move
     let empty = subst (λ (l : List ℕ). Moves false h (state first) (state next) l b line) none from in
     let all = line_written (state first) (state next) (state last) h b line whole empty ends in
     subst (λ x. Did (Writes Output line) (state x) (state given) (Some whole)) is (subst (λ x. Did (Writes Output line) (state first) (state x) (Some whole)) (sym at) all)
-
--- memory ran out before a piece was made
-pub line_stopped : {X : Type 0} (state : X → HostState) (line : List ℕ) (start given : X) → given ≡ start → Did (Writes Output line) (state start) (state given) None
-line_stopped state line start given is = subst (λ x. Did (Writes Output line) (state start) (state x) None) (sym is) (did_none (Writes Output line) (state start) (can_write Output line))
 
 pub can_after : (a : Answer) (ok : Bool) → Begins (after_output a ok) []
 can_after a true = can_tell a.errors a.status

@@ -26,6 +26,7 @@ use tl_base::Slot;
 use tl_decode::WholeFault;
 use tl_plan::Plan;
 use tl_schema::{Schema, TypeRef};
+use tl_show::JsonPrinter;
 use tl_types::Value;
 
 // What is told of an input that is no value.
@@ -50,9 +51,10 @@ fn write_line<H: Host>(
 ) -> Result<bool, AllocError>
     ensures { Did (Writes Output (line_text schema.now.decls (shape of.now) (view value.now))) (H.state host.old) (H.state host.new) (answered result) }
 {
+    let printer = JsonPrinter::new(alloc, schema)?;
     let mut piece = Piece::new(alloc)?;
     let mut line = OutputLine::new(host, &mut piece);
-    put_line(alloc, schema, of, value, &mut line)?;
+    put_line(&printer, of, value, &mut line);
     Ok(line.end())
 }
 

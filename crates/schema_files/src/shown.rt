@@ -1,5 +1,6 @@
 //! Lines of values.
-ghost use Rattle.std.specs.Prelude.{◌≡◌, IfOk, OnErr, OnOk};
+ghost use Rattle.std.specs.Prelude.{◌≡◌, IfOk};
+ghost use Rattle.tl_schema.specs.Schemas.{Declared};
 ghost use Rattle.tl_schema.specs.Seen.{shape};
 ghost use Rattle.tl_types.specs.Seen.{view};
 ghost use Rattle.tl_show.specs.inner.Kept.{AreFormsOf};
@@ -28,14 +29,12 @@ pub fn printed_line(
 pub fn line_by(
     alloc: Global,
     forms: &JsonForms,
-    schema: &Schema,
     of: &TypeRef,
     value: &Value,
 ) -> Result<Vec<u8>, AllocError>
-    requires made { AreFormsOf schema.now forms.now }
-    ensures { IfOk result (λ line. line.items ≡ line_text schema.now.decls (shape of.now) (view value.now)) }
+    ensures { (schema : Declared) → AreFormsOf schema forms.now → IfOk result (λ line. line.items ≡ line_text schema.decls (shape of.now) (view value.now)) }
 {
-    let mut line = forms.text(alloc, schema, of, value)?;
+    let mut line = forms.text(alloc, of, value)?;
     line.push(b'\n')?;
     Ok(line)
 }
@@ -53,19 +52,10 @@ pub fn value_line(
     printed_line(alloc, &printer, of, value)
 }
 
-/// Puts the line of one value of a type, piece by piece as it is made. Where memory runs out nothing was put.
-pub fn put_line<S: TextSink>(
-    alloc: Global,
-    schema: &Schema,
-    of: &TypeRef,
-    value: &Value,
-    out: &mut S,
-) -> Result<(), AllocError>
-    ensures line { OnOk result (S.puts out.old out.new (line_text schema.now.decls (shape of.now) (view value.now))) }
-    ensures none { OnErr result (out.new ≡ out.old) }
+/// Puts the line of a value of a type by the printer of its schema, piece by piece as it is made. No memory is taken.
+pub fn put_line<S: TextSink>(printer: &JsonPrinter<'_>, of: &TypeRef, value: &Value, out: &mut S)
+    ensures { S.puts out.old out.new (line_text printer.now.schema.now.decls (shape of.now) (view value.now)) }
 {
-    let printer = JsonPrinter::new(alloc, schema)?;
-    printer.write(alloc, of, value, out)?;
+    printer.write(of, value, out);
     out.put(b"\n");
-    Ok(())
 }

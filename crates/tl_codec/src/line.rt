@@ -25,7 +25,7 @@ pub fn line_of(
     ensures { Decodes schema.now (shape of.now) bytes.now result }
 {
     match decode_bytes_as(alloc, schema, of, bytes) {
-        Ok(value) => match line_by(alloc, forms, schema, of, &value) {
+        Ok(value) => match line_by(alloc, forms, of, &value) {
             Ok(line) => Ok(line),
             Err(_) => Err(LoadError::Memory),
         },

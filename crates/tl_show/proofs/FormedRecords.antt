@@ -1,6 +1,7 @@
 -- A value by the forms of its schema's declarations is the value as it is shown.
 use Rattle.std.proofs.Common.{◌≡◌, ℕ, zero, suc, List, [], ◌∷◌, ◌++◌, Option, Some, None, refl, ap, ap₂, ◌∙◌}
 use Rattle.std.specs.Prelude.{⊤, slice_get}
+use Rattle.std.specs.Option.{option_or}
 use Rattle.serde_json.specs.Data.{array, object, item}
 use Rattle.tl_schema.specs.Types.{Shape}
 use Rattle.tl_schema.specs.Closing.{closed}
@@ -8,7 +9,7 @@ use Rattle.tl_schema.specs.Schemas.{Declaration}
 use Rattle.tl_types.specs.Values.{ValueView, int, long, nat, opaque, text, truth, absent, list, node, call, ValueViews, no_values, value}
 use Rattle.tl_types.specs.Parts.{arguments_of, fields_in, is_absent, item_of, name_in}
 use Rattle.tl_show.specs.Shown.{named, shown, shown_each, with_fields}
-use Rattle.tl_show.specs.inner.Forms.{AreForms, FormView, IsForm, PartView, Reads, form_in, members_at, members_of, part_of, read_at, shown_at, unless_missing, with_part, written, written_each}
+use Rattle.tl_show.specs.inner.Forms.{AreForms, FormView, IsForm, Keys, PartView, Reads, form_in, last_of, members_at, members_of, part_of, read_at, shown_at, unless_missing, with_part, written, written_each}
 use Rattle.tl_show.specs.inner.Forms as form
 
 pub forms_push : (ds : List Declaration) (fs : List FormView) (d : Declaration) (f : FormView) → AreForms ds fs → IsForm d f → AreForms (ds ++ d ∷ []) (fs ++ f ∷ [])
@@ -34,10 +35,14 @@ same_part : (n : List ℕ) (args : List Shape) (at to : Reads) → ((i : ℕ) (T
 same_part n args at to same form.name = refl
 same_part n args at to same (form.field i T) = same i (closed args T)
 
-same_members : (n : List ℕ) (args : List Shape) (at to : Reads) → ((i : ℕ) (T : Shape) → at i T ≡ to i T) → (ks : List (List ℕ × PartView))
+same_last : (n : List ℕ) (args : List Shape) (at to : Reads) → ((i : ℕ) (T : Shape) → at i T ≡ to i T) → (ps : List PartView) → last_of n args at ps ≡ last_of n args to ps
+same_last n args at to same [] = refl
+same_last n args at to same (p ∷ ps) = ap₂ option_or (same_last n args at to same ps) (same_part n args at to same p)
+
+same_members : (n : List ℕ) (args : List Shape) (at to : Reads) → ((i : ℕ) (T : Shape) → at i T ≡ to i T) → (ks : Keys)
     → members_at n args at ks ≡ members_at n args to ks
 same_members n args at to same [] = refl
-same_members n args at to same (k ∷ ks) = ap₂ (with_part k.0) (same_part n args at to same k.1) (same_members n args at to same ks)
+same_members n args at to same (k ∷ ks) = ap₂ (with_part k.0) (same_last n args at to same k.1) (same_members n args at to same ks)
 
 record_as_shown : (all : List Declaration) (d : Option Declaration) (f : Option FormView) → AtOneIndex d f → (args : List Shape) (at : Reads) (vs : ValueViews)
     → ((i : ℕ) (T : Shape) → at i T ≡ shown_at all vs i T) → members_of (form_in f) args at ≡ with_fields all args (named (name_in d)) (fields_in d) vs

@@ -12,11 +12,11 @@ pub mod FormSteps
 pub mod KeyedParts
 pub mod KeysApart
 pub mod KeyOrder
+pub mod LastParts
 pub mod LineTexts
 pub mod MembersFound
 pub mod MembersShown
 pub mod NamedDeclarations
-pub mod NoFloats
 pub mod OtherKeys
 pub mod ReadAnswers
 pub mod ReadLoops

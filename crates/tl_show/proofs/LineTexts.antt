@@ -1,14 +1,12 @@
 -- The text of what was written, and of what is shown.
-use Rattle.std.proofs.Common.{◌≡◌, ℕ, List, [], ◌∷◌, ◌++◌, Option, Some, None, false, refl, sym, ap, ◌∙◌, append-nil}
-use Rattle.std.specs.Prelude.{IfSome}
+use Rattle.std.proofs.Common.{◌≡◌, ℕ, List, [], ◌∷◌, ◌++◌, refl, sym, ap, ◌∙◌, append-nil}
 use Rattle.json.specs.Print.{print, print_from, quoted}
 use Rattle.json.specs.Token.{Token, key, string}
 use Rattle.json.specs.Written.{Written}
-use Rattle.serde_json.specs.Data.{Data}
-use Rattle.serde_json.specs.Written.{compact_text, has_float}
+use Rattle.serde_json.specs.Written.{compact_text}
 use Rattle.tl_schema.specs.Types.{Shape}
 use Rattle.tl_schema.specs.Closing.{closed}
-use Rattle.tl_schema.specs.Schemas.{Declaration, Declared}
+use Rattle.tl_schema.specs.Schemas.{Declared}
 use Rattle.tl_types.specs.Values.{ValueView}
 use Rattle.tl_types.proofs.Closings.{closed_none}
 use Rattle.tl_show.specs.Shown.{shown}
@@ -16,7 +14,6 @@ use Rattle.tl_show.specs.inner.Forms.{AreForms, FormView, written}
 use Rattle.tl_show.specs.inner.Lines.{PrintAsShown}
 use Rattle.tl_show.proofs.FormedRecords.{as_shown}
 use Rattle.tl_show.proofs.Putting.{same_put}
-use Rattle.tl_show.proofs.NoFloats.{no_float}
 
 -- what a writer of one token leaves
 pub one_printed : (old new : Written) (t : Token) (start text : List ℕ) → old.before ≡ start → old.tokens ≡ [] → new.before ≡ old.before → new.tokens ≡ old.tokens ++ t ∷ []
@@ -32,15 +29,10 @@ unfolding print_from
 print-string s = append-nil (quoted s)
 
 -- the forms of a schema's declarations write what is shown
-pub print_as_shown : {X : Type 0} (schema : Declared) (see : X → List FormView) (found : Option X) → IfSome found (λ x. AreForms schema.decls (see x)) → IfSome found (λ x. PrintAsShown schema (see x))
-print_as_shown schema see None are = tt
-print_as_shown schema see (Some x) are = λ T v. ap compact_text (as_shown schema.decls (see x) are T v)
+pub print_as_shown : (schema : Declared) (fs : List FormView) → AreForms schema.decls fs → PrintAsShown schema fs
+print_as_shown schema fs are = λ T v. ap compact_text (as_shown schema.decls fs are T v)
 
 pub put_as_shown : {S : Type 0} (puts : S → S → List ℕ → Type 0) (x y : S) (schema : Declared) (fs : List FormView) (T : Shape) (v : ValueView) → PrintAsShown schema fs
     → puts x y (compact_text (written fs (closed [] T) v)) → puts x y (compact_text (shown schema.decls T v))
 put_as_shown puts x y schema fs T v known put =
     same_put puts x y _ _ (sym (known T v) ∙ ap (λ (U : Shape). compact_text (written fs U v)) (sym (closed_none T))) put
-
--- the text of a tree
-pub tree_text : (ds : List Declaration) (T : Shape) (v : ValueView) (d : Data) (text : List ℕ) → d ≡ shown ds T v → (has_float d ≡ false → text ≡ compact_text d) → compact_text (shown ds T v) ≡ text
-tree_text ds T v d text is made = ap compact_text (sym is) ∙ sym (made (ap has_float is ∙ no_float ds T v))

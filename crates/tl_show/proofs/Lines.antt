@@ -4,7 +4,7 @@ use Rattle.std.specs.Prelude.{if◌then◌else◌, slice_get}
 use Rattle.std.specs.Str.{IsUtf8}
 use Rattle.std.proofs.lemmas.List.{drop_all, drop_more}
 use Rattle.json.specs.Print.{escape_byte, quoted}
-use Rattle.serde_json.specs.Data.{Data, Items, array, Members, object}
+use Rattle.serde_json.specs.Data.{Data, string, Items, array, Members, object}
 use Rattle.serde_json.specs.Written.{comma_if, compact_text, items_text, members_text}
 use Rattle.tl_schema.specs.Types.{Shape}
 use Rattle.tl_types.specs.Parts.{item_of}
@@ -13,9 +13,9 @@ use Rattle.tl_types.specs.Seen.{view, views}
 use Rattle.tl_types.specs.declared.value.Value.{Value}
 use Rattle.tl_show.specs.Shown.{hex_data, is_string, string_data, text_data}
 use Rattle.tl_show.specs.declared.form.Key.{Key}
-use Rattle.tl_show.specs.inner.Forms.{FormView, Reads, form_in, members_at, members_of, part_of, record_by, with_part, written, written_each}
-use Rattle.tl_show.specs.inner.FormViews.{key_views, part_view}
-use Rattle.tl_show.specs.inner.Lines.{PutsMember, later_after, member_text}
+use Rattle.tl_show.specs.inner.Forms.{FormView, Reads, form_in, last_of, members_at, members_of, record_by, with_part, written, written_each}
+use Rattle.tl_show.specs.inner.FormViews.{key_views, parts_view}
+use Rattle.tl_show.specs.inner.Lines.{PutsMember, key_text, later_after, member_text}
 use Rattle.tl_show.proofs.Putting.{Leads, leads_end, leads_first, leads_more, same_put}
 use Rattle.tl_show.proofs.Strings.{as_hex, as_text}
 
@@ -57,14 +57,19 @@ module _ {S : Type 0} (puts : S → S → List ℕ → Type 0) where
         leads_end puts both start old new _ whole leads (same_put puts old new _ (93 ∷ []) (ap (λ l. items_text later (written_each fs T (views l))) (drop_all i vs past)) closes)
 
     pub next_member : (n : List ℕ) (args : List Shape) (at : Reads) (ks : List Key) (i : ℕ) (k : Key) (start old new : S) (later now : Bool) (whole : List ℕ) → i < length ks → k ≡ get_or ks i k
-        → PutsMember puts now later old new (string_bytes k.name) (part_of n args at (part_view k.part)) → Leads puts start old (members_text later (members_at n args at (key_views (drop i ks)))) whole
+        → PutsMember puts now later old new (string_bytes k.name) (last_of n args at (parts_view k.parts)) → Leads puts start old (members_text later (members_at n args at (key_views (drop i ks)))) whole
         → Leads puts start new (members_text now (members_at n args at (key_views (drop (i + 1) ks)))) whole
     next_member n args at ks i k start old new later now whole within is member leads =
-        let d = part_of n args at (part_view k.part) in
+        let d = last_of n args at (parts_view k.parts) in
         let rest = members_at n args at (key_views (drop (i + 1) ks)) in
         let split = ap (λ l. members_text later (members_at n args at (key_views l))) (drop_at ks i k within is) ∙ member_first later (string_bytes k.name) d rest
         ∙ ap (λ b. member_text later (string_bytes k.name) d ++ members_text b rest) (sym member.0) in
         leads_more puts both start old new (member_text later (string_bytes k.name) d) _ (members_text now rest) whole leads member.1 split
+
+    -- the name of the declaration
+    pub title_written : (later : Bool) (old mid new : S) (k n title : List ℕ) (d : Option Data) → d ≡ Some (string n) → title ≡ quoted n → puts old mid (key_text later k) → puts mid new title
+        → PutsMember puts true later old new k d
+    title_written later old mid new k n title d is same key put = rw is (refl, both old mid new (key_text later k) (quoted n) key (rw same at put))
 
     pub last_member : (n : List ℕ) (args : List Shape) (at : Reads) (ks : List Key) (i : ℕ) (start old new : S) (later : Bool) (whole : List ℕ) → length ks ≤ i → puts old new (125 ∷ [])
         → Leads puts start old (members_text later (members_at n args at (key_views (drop i ks)))) whole → puts start new whole
@@ -88,8 +93,8 @@ hex_opening s bad = ap compact_text (sym (as_hex s bad))
 -- ---- texts and lists of a type that a variable may stand for
 
 pub text_same : (fs : List FormView) (T U : Shape) (v : ValueView) (s t : List ℕ) → v ≡ text s → t ≡ s → is_string T ≡ is_string U → compact_text (written fs T v) ≡ compact_text (text_data U t)
-text_same fs T U v s t is same string =
-    ap (λ x. compact_text (written fs T x)) is ∙ ap (λ (b : Bool). compact_text (if b then string_data s else hex_data s)) string ∙ ap (λ l. compact_text (text_data U l)) (sym same)
+text_same fs T U v s t is same alike =
+    ap (λ x. compact_text (written fs T x)) is ∙ ap (λ (b : Bool). compact_text (if b then string_data s else hex_data s)) alike ∙ ap (λ l. compact_text (text_data U l)) (sym same)
 
 pub list_same : (fs : List FormView) (T I : Shape) (v : ValueView) (vs ws : ValueViews) → v ≡ list vs → ws ≡ vs → item_of T ≡ I → compact_text (written fs T v) ≡ compact_text (array (written_each fs I ws))
 list_same fs T I v vs ws is same inner =

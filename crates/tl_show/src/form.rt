@@ -4,7 +4,7 @@ ghost use Rattle.json.specs.Print.{quoted};
 
 use tl_schema::TypeRef;
 
-/// What stands at a key of a record.
+/// What may stand at a key of a record.
 #[derive(Drop)]
 pub enum Part {
     /// The name of its declaration.
@@ -13,10 +13,23 @@ pub enum Part {
     Field { index: usize, of: TypeRef },
 }
 
-/// A key of a record, and what stands at it.
+/// What may stand at a key of a record: of these the last that is there. Only fields of one name, or one that is named `_`, make later ones.
+pub struct KeyParts {
+    pub first: Part,
+    pub later: Vec<Part>,
+}
+
+// By hand, so that each exit of an owner has one call to prove.
+impl Drop for KeyParts {
+    fn drop(self) {
+        let KeyParts { first: _, later: _ } = self;
+    }
+}
+
+/// A key of a record, and what may stand at it.
 pub struct Key {
     pub name: String,
-    pub part: Part,
+    pub parts: KeyParts,
     /// A comma, the key as JSON, and its colon.
     pub lead: Vec<u8>,
     ghost is_lead: { lead.items ≡ 44 ∷ (quoted (string_bytes name) ++ 58 ∷ []) },
@@ -27,7 +40,7 @@ impl Drop for Key {
     fn drop(self) {
         let Key {
             name: _,
-            part: _,
+            parts: _,
             lead: _,
         } = self;
     }

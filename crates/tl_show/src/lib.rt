@@ -1,6 +1,7 @@
 //! Values as JSON, and JSON as values.
 #![tactic(auto)]
 
+mod choosing;
 mod copying;
 mod direct;
 mod fault;

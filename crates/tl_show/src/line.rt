@@ -1,6 +1,6 @@
 //! Values as JSON text, written straight.
 ghost use Rattle.std.proofs.Props.{props};
-ghost use Rattle.std.specs.Prelude.{◌≡◌, IfOk, IfSome, OnErr, OnOk, map};
+ghost use Rattle.std.specs.Prelude.{◌≡◌, IfOk, map};
 ghost use Rattle.serde_json.specs.Written.{compact_text};
 ghost use Rattle.tl_schema.specs.Seen.{shape};
 ghost use Rattle.tl_types.specs.Seen.{view};
@@ -18,7 +18,7 @@ use tl_types::Value;
 pub struct JsonPrinter<'s> {
     schema: &'s Schema,
     forms: JsonForms,
-    ghost known: { IfSome forms.forms (λ fs. PrintAsShown schema.now (map form_view fs.items)) } by { Prim.hlevel props },
+    ghost known: { PrintAsShown schema.now (map form_view forms.forms.items) } by { Prim.hlevel props },
 }
 
 // By hand, so that each exit of an owner has one call to prove.
@@ -51,21 +51,14 @@ impl<'s> JsonPrinter<'s> {
     pub fn text(&self, alloc: Global, of: &TypeRef, value: &Value) -> Result<Vec<u8>, AllocError>
         ensures text { IfOk result (λ bytes. bytes.items ≡ compact_text (shown self.now.schema.now.decls (shape of.now) (view value.now))) }
     {
-        self.forms.text(alloc, self.schema, of, value)
+        self.forms.text(alloc, of, value)
     }
 
     /// Puts that text, piece by piece as it is made, as `JsonForms::write` does.
-    pub fn write<S: TextSink>(
-        &self,
-        alloc: Global,
-        of: &TypeRef,
-        value: &Value,
-        out: &mut S,
-    ) -> Result<(), AllocError>
-        ensures text { OnOk result (S.puts out.old out.new (compact_text (shown self.now.schema.now.decls (shape of.now) (view value.now)))) }
-        ensures none { OnErr result (out.new ≡ out.old) }
+    pub fn write<S: TextSink>(&self, of: &TypeRef, value: &Value, out: &mut S)
+        ensures text { S.puts out.old out.new (compact_text (shown self.now.schema.now.decls (shape of.now) (view value.now))) }
     {
-        self.forms.write(alloc, self.schema, of, value, out)
+        self.forms.write(of, value, out);
     }
 }
 
@@ -78,5 +71,5 @@ pub fn show_text(
 ) -> Result<Vec<u8>, AllocError>
     ensures text { IfOk result (λ bytes. bytes.items ≡ compact_text (shown schema.now.decls (shape of.now) (view value.now))) }
 {
-    JsonForms::of(alloc, schema)?.text(alloc, schema, of, value)
+    JsonForms::of(alloc, schema)?.text(alloc, of, value)
 }

@@ -6,12 +6,13 @@ ghost use Rattle.serde_json.specs.Written.{comma_if, compact_text};
 ghost use Rattle.tl_schema.specs.Closing.{closed};
 ghost use Rattle.tl_schema.specs.Seen.{shape};
 ghost use Rattle.tl_types.specs.Seen.{view, views};
-ghost use Rattle.tl_show.specs.inner.Forms.{members_of, part_of, read_at, record_by, unless_missing, written, written_each};
-ghost use Rattle.tl_show.specs.inner.FormViews.{form_view, part_view};
+ghost use Rattle.tl_show.specs.inner.Forms.{last_of, members_of, read_at, record_by, unless_missing, written, written_each};
+ghost use Rattle.tl_show.specs.inner.FormViews.{form_view, parts_view};
 ghost use Rattle.tl_show.specs.inner.Lines.{PutsMember, key_text};
 ghost use Rattle.tl_show.specs.inner.Scopes.{shapes_in};
 ghost use Rattle.tl_types.specs.Parts.{is_absent};
 
+use crate::choosing::part_there;
 use crate::form::{JsonForm, Key, Part};
 use crate::scope::{Scope, resolved};
 use crate::sink::TextSink;
@@ -134,7 +135,7 @@ fn write_members<S: TextSink>(
     out.put(b"}");
 }
 
-// Writes the member at a key of a form, unless it is a field that isn't there. Tells whether a member stands before the next one, as `later` does for this one.
+// Writes the member at a key of a form, unless nothing of it is there. Tells whether a member stands before the next one, as `later` does for this one.
 #[cycle(write)]
 fn write_member<S: TextSink>(
     fields: &[Value],
@@ -145,9 +146,9 @@ fn write_member<S: TextSink>(
     forms: &[JsonForm],
     out: &mut S,
 ) -> bool
-    ensures { PutsMember S.puts result later out.old out.new (string_bytes key.now.name) (part_of (string_bytes form.now.name) (shapes_in scope.entry) (read_at (map form_view forms.now) (views fields.now)) (part_view key.now.part)) }
+    ensures { PutsMember S.puts result later out.old out.new (string_bytes key.now.name) (last_of (string_bytes form.now.name) (shapes_in scope.entry) (read_at (map form_view forms.now) (views fields.now)) (parts_view key.now.parts)) }
 {
-    match &key.part {
+    match part_there(&key.parts, fields) {
         Part::Name => {
             write_key(key, later, out);
             out.put(&form.title);

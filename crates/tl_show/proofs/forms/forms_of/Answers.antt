@@ -11,4 +11,4 @@ loop-i-preserved c =
     let ds = c.args.schema.now.decls in
     let d = declaration c.entry.result.now in
     rw (c.in_ok-push.ensures.items, map_push, take_push ds c.loop-i.i d c.entry.ensures)
-    (forms_push (take c.loop-i.i ds) (map form_view c.loop-i.forms.items) d (form_view c.in-Some.form) c.loop-i.invariant (rw c.in-Some.is at c.in_ok-form.ensures))
+    (forms_push (take c.loop-i.i ds) (map form_view c.loop-i.forms.items) d (form_view c.in_ok-form_of.field-0) c.loop-i.invariant c.in_ok-form_of.ensures)

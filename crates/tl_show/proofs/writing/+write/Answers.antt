@@ -1,14 +1,15 @@
-use Rattle.std.proofs.Common.{◌≤◌, [], map, refl, sym, ap, ◌∙◌, string_bytes, arith}
+use Rattle.std.proofs.Common.{◌≡◌, ◌≤◌, [], map, refl, sym, ap, ◌∙◌, string_bytes, arith}
 use Rattle.tl_schema.specs.Closing.{closed}
 use Rattle.tl_schema.specs.Seen.{shape}
 use Rattle.tl_types.specs.Seen.{view, views}
 use Rattle.tl_types.proofs.Views.{view-Call, view-List, view-Node, view-Text}
 use Rattle.serde_json.specs.Data.{array, object}
 use Rattle.serde_json.specs.Written.{compact_text}
-use Rattle.tl_show.specs.inner.Forms.{read_at, members_at, written_each}
-use Rattle.tl_show.specs.inner.FormViews.{form_view}
+use Rattle.tl_show.specs.inner.Forms.{last_of, members_at, part_of, read_at, written_each}
+use Rattle.tl_show.specs.inner.FormViews.{form_view, part_view, parts_view}
+use Rattle.tl_show.specs.declared.form.Part.{Part}
 use Rattle.tl_show.specs.inner.Scopes.{shapes_in}
-use Rattle.tl_show.proofs.Lines.{empty_record, first_item, first_member, last_item, last_member, list_same, next_item, next_member, nothing_written, record_written, text_same}
+use Rattle.tl_show.proofs.Lines.{empty_record, first_item, first_member, last_item, last_member, list_same, next_item, next_member, nothing_written, record_written, text_same, title_written}
 use Rattle.tl_show.proofs.Putting.{same_put}
 use Rattle.tl_show.proofs.FieldsByIndex.{call_written, field_past, field_there, form_past, form_there, node_written}
 use Rattle.tl_types.specs.Parts.{arguments_of, item_of}
@@ -65,18 +66,36 @@ write_members-returns g t c =
     last_member g.S.TextSink.puts g.met.S.TextSink.puts_both f.name args at c.args.form.now.keys.items c.loop-key.key-index c.args.out.now c.loop-key.out c.put-2.new.self
     c.loop-key.later (compact_text (object (members_at f.name args at f.keys))) (omega (arith, c.loop-key-test.false)) c.put-2.ensures c.loop-key.invariant
 
+pub write_member-returns-in-Name : goal.write_member-returns-in-Name
+write_member-returns-in-Name g t c =
+    let n = string_bytes c.args.form.now.name in
+    let args = shapes_in c.args.scope in
+    let at = read_at (map form_view c.args.forms.now) (views c.args.fields.now) in
+    let stands : last_of n args at (parts_view c.args.key.now.parts) ≡ part_of n args at (part_view c.part_there.result.now) = c.part_there.ensures n args (map form_view c.args.forms.now) in
+    let name = ap (λ (p : Part). part_of n args at (part_view p)) c.in-Name.is in
+    title_written g.S.TextSink.puts g.met.S.TextSink.puts_both c.args.later c.args.out.now c.write_key.new.out c.put.new.self (string_bytes c.args.key.now.name) n c.deref.result.now
+    (last_of n args at (parts_view c.args.key.now.parts)) (stands ∙ name) (c.deref.ensures.value ∙ c.args.form.now.is_title) c.write_key.ensures c.put.ensures
+
 pub write_member-returns-in-Some : goal.write_member-returns-in-Some
 write_member-returns-in-Some g t c =
-    let at = c.in-Some.ensures.lookup in
-    let there = field_there (map form_view c.args.forms.now) (string_bytes c.args.form.now.name) (shapes_in c.args.scope) c.args.fields.now c.args.key.now.part c.in-Field.index c.in-Field.of
-    c.in-Some.value.now c.in-Field.is at.3.0 at.1 in
-    rw there c.write_field.ensures
+    let found = c.in-Some.ensures.lookup in
+    let n = string_bytes c.args.form.now.name in
+    let args = shapes_in c.args.scope in
+    let fs = map form_view c.args.forms.now in
+    let at = read_at fs (views c.args.fields.now) in
+    let stands : last_of n args at (parts_view c.args.key.now.parts) ≡ part_of n args at (part_view c.part_there.result.now) = c.part_there.ensures n args fs in
+    let there = field_there fs n args c.args.fields.now c.part_there.result.now c.in-Field.index c.in-Field.of c.in-Some.value.now c.in-Field.is found.3.0 found.1 in
+    rw (stands, there) c.write_field.ensures
 
 pub write_member-returns-in-None : goal.write_member-returns-in-None
 write_member-returns-in-None g t c =
-    nothing_written g.S.TextSink.puts c.args.later c.args.out.now (string_bytes c.args.key.now.name) _ (g.met.S.TextSink.puts_none c.args.out.now)
-    (field_past (map form_view c.args.forms.now) (string_bytes c.args.form.now.name) (shapes_in c.args.scope) c.args.fields.now c.args.key.now.part c.in-Field.index c.in-Field.of
-    c.in-Field.is c.in-None.ensures.lookup.3)
+    let n = string_bytes c.args.form.now.name in
+    let args = shapes_in c.args.scope in
+    let fs = map form_view c.args.forms.now in
+    let at = read_at fs (views c.args.fields.now) in
+    let stands : last_of n args at (parts_view c.args.key.now.parts) ≡ part_of n args at (part_view c.part_there.result.now) = c.part_there.ensures n args fs in
+    nothing_written g.S.TextSink.puts c.args.later c.args.out.now (string_bytes c.args.key.now.name) (last_of n args at (parts_view c.args.key.now.parts)) (g.met.S.TextSink.puts_none c.args.out.now)
+    (stands ∙ field_past fs n args c.args.fields.now c.part_there.result.now c.in-Field.index c.in-Field.of c.in-Field.is c.in-None.ensures.lookup.3)
 
 pub write_record-returns-in-Some : goal.write_record-returns-in-Some
 write_record-returns-in-Some g t c =
