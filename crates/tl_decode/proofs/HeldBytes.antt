@@ -13,8 +13,8 @@ use Rattle.tl_decode.specs.declared.stack.WantedItem.{WantedItem}
 use Rattle.tl_decode.specs.declared.stack.WantedItem.TheVariants as wanted
 use Rattle.tl_decode.specs.declared.stack.Item.{Item}
 use Rattle.tl_decode.specs.declared.stack.Item.TheVariants as item
-use Rattle.tl_decode.specs.declared.stack.ItemFault.{ItemFault}
-use Rattle.tl_decode.specs.declared.stack.ItemFault.TheVariants as stop
+use Rattle.tl_base.specs.declared.fault.Fault.{Fault}
+use Rattle.tl_base.specs.declared.fault.Fault.TheVariants as stop
 use Rattle.tl_decode.specs.inner.Frames.{item_at, item_view, ItemView, word, plain, is_truncated}
 use Rattle.tl_decode.specs.inner.Needs.{head_needs, needs, text_needs, IsWhole, Fills, FindsItem}
 
@@ -214,7 +214,7 @@ pub word_next : (W : WantedItem) (old next : List ℕ) (w : ℕ) → ((s : Spot)
 word_next W old next w same none some is =
     direct_item W old next 4 (item.Word w) none some (λ p more. same (spot p (take 4 next ++ more)) ∙ word_whole p w (take 4 next) more (length-take-le 4 next some) is)
 
-pub direct_stop : (W : WantedItem) (old new next : List ℕ) (size : ℕ) (st : ItemFault) → old ≡ [] → IsWhole W (take size next) (Err st) → FindsItem W old new next (Err st)
+pub direct_stop : (W : WantedItem) (old new next : List ℕ) (size : ℕ) (st : Fault Cause) → old ≡ [] → IsWhole W (take size next) (Err st) → FindsItem W old new next (Err st)
 direct_stop W old new next size (stop.Refused cause) none whole = (
   whole.0,
   λ p more.
@@ -235,7 +235,7 @@ held_item W old mid new next count x f whole none =
           ∙ whole p (drop count next ++ more) ∙ ap (λ (n : ℕ). Ok (item_view x, spot (moved p n) (drop count next ++ more))) len,
     )
 
-pub held_stop : (W : WantedItem) (old mid new next : List ℕ) (count : ℕ) (st : ItemFault) → Fills W old mid next count → IsWhole W mid (Err st) → FindsItem W old new next (Err st)
+pub held_stop : (W : WantedItem) (old mid new next : List ℕ) (count : ℕ) (st : Fault Cause) → Fills W old mid next count → IsWhole W mid (Err st) → FindsItem W old new next (Err st)
 held_stop W old mid new next count (stop.Refused cause) f whole = (
   whole.0,
   λ p more.

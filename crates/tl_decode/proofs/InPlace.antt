@@ -13,15 +13,16 @@ use Rattle.tl_decode.specs.declared.stack.Next.{Next}
 use Rattle.tl_decode.specs.declared.stack.Next.TheVariants as next
 use Rattle.tl_decode.specs.declared.stack.Advance.{Advance}
 use Rattle.tl_decode.specs.declared.stack.Advance.TheVariants as step
-use Rattle.tl_decode.specs.declared.stack.ItemFault.{ItemFault}
-use Rattle.tl_decode.specs.declared.stack.ItemFault.TheVariants as stop
+use Rattle.tl_base.specs.declared.fault.Fault.{Fault}
+use Rattle.tl_base.specs.declared.fault.Fault.TheVariants as stop
+use Rattle.tl_types.specs.declared.cause.Cause.{Cause}
 use Rattle.tl_decode.specs.inner.Frames.{in_list, in_record, type_in, entry_in, IsInPlan, AreWell, IsWellFrame, SettlesFrom, StepsFrom, Adds, IsWith, Opens}
 use Rattle.tl_decode.proofs.FrameLists.{well_pop}
 use Rattle.tl_decode.proofs.PartSteps.{closes_in, list_opens}
 
 -- ---- two steps as one
 
-pub steps_then : (p : PlanView) (old mid new : List StackFrame) (n m : Next) (r : Result Advance ItemFault) → StepsFrom p old n mid (Ok (step.Goes m)) → StepsFrom p mid m new r → StepsFrom p old n new r
+pub steps_then : (p : PlanView) (old mid new : List StackFrame) (n m : Next) (r : Result Advance (Fault Cause)) → StepsFrom p old n mid (Ok (step.Goes m)) → StepsFrom p mid m new r → StepsFrom p old n new r
 steps_then p old mid new n m (Ok (step.Goes k)) a b = (record { frames = b.0.frames; is_well = b.0.is_well; same = λ s. a.0.same s ∙ b.0.same s }, omega (arith, a.1, b.1))
 steps_then p old mid new n m (Ok (step.Stops f)) a b = (record { frames = b.0.frames; is_well = b.0.is_well; same = λ s. a.0.same s ∙ b.0.same s }, omega (arith, a.1, b.1))
 steps_then p old mid new n m (Err (stop.Refused cause)) a b = (b.0, λ s. a.0.same s ∙ b.1 s)
@@ -86,7 +87,7 @@ module _ (p : PlanView) (xs : List StackFrame) (n : ℕ) (f : StackFrame) (len :
 
 -- ---- a step, and then all others
 
-pub settles_then : (p : PlanView) (old mid new : List StackFrame) (n m : Next) (r : Result Found ItemFault) → StepsFrom p old n mid (Ok (step.Goes m)) → SettlesFrom p mid m new r → SettlesFrom p old n new r
+pub settles_then : (p : PlanView) (old mid new : List StackFrame) (n m : Next) (r : Result Found (Fault Cause)) → StepsFrom p old n mid (Ok (step.Goes m)) → SettlesFrom p mid m new r → SettlesFrom p old n new r
 settles_then p old mid new n m (Ok f) a b = (record { frames = b.0.frames; is_well = b.0.is_well; same = λ s. a.0.same s ∙ b.0.same s }, omega (arith, a.1, b.1))
 settles_then p old mid new n m (Err (stop.Refused cause)) a b = (b.0, λ s. a.0.same s ∙ b.1 s)
 settles_then p old mid new n m (Err stop.Memory) a b = tt

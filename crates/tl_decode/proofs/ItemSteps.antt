@@ -18,7 +18,7 @@ use Rattle.tl_decode.specs.declared.stack.StackFrame.TheVariants as frame
 use Rattle.tl_decode.specs.declared.stack.WantedItem.{WantedItem}
 use Rattle.tl_decode.specs.declared.stack.WantedItem.TheVariants as wanted
 use Rattle.tl_decode.specs.declared.stack.Next.TheVariants as next
-use Rattle.tl_decode.specs.declared.stack.ItemFault.TheVariants as stop
+use Rattle.tl_base.specs.declared.fault.Fault.TheVariants as stop
 use Rattle.tl_decode.specs.inner.Frames.{word, plain, frame_view, type_in, entry_in, goes_on, resumes, after, number_at, find_in, levels_below, wanted_work, cost, parts_left, IsInPlan, IsFresh, IsWellFrame, Takes, is_truncated}
 use Rattle.tl_decode.proofs.FrameLists.{parts_few}
 use Rattle.tl_decode.proofs.Opened.{count_wanted, fresh_left}

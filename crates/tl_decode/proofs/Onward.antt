@@ -15,8 +15,9 @@ use Rattle.tl_decode.specs.declared.stack.Next.{Next}
 use Rattle.tl_decode.specs.declared.stack.Next.TheVariants as next
 use Rattle.tl_decode.specs.declared.stack.Found.{Found}
 use Rattle.tl_decode.specs.declared.stack.Found.TheVariants as found
-use Rattle.tl_decode.specs.declared.stack.ItemFault.{ItemFault}
-use Rattle.tl_decode.specs.declared.stack.ItemFault.TheVariants as stop
+use Rattle.tl_base.specs.declared.fault.Fault.{Fault}
+use Rattle.tl_base.specs.declared.fault.Fault.TheVariants as stop
+use Rattle.tl_types.specs.declared.cause.Cause.{Cause}
 use Rattle.tl_decode.specs.inner.Steps.{ReadsAs, FailsAs}
 use Rattle.tl_decode.specs.inner.Frames.{StackFrameView, ItemView, views, type_in, resume, resumes, item_at, item_view, after, wanted_at, levels_below, next_at, found_at, next_work, found_work, IsFound, IsStop, ReadsOn, Settles, SettlesAt, Steps, Takes}
 use Rattle.tl_decode.proofs.FrameLists.{resume_err}
@@ -37,7 +38,7 @@ module _ (p : PlanView) (fs : List StackFrameView) (W : WantedItem) where
   item_failed (Some bytes) b m q r ReadFault on h = tt
   item_failed (Some bytes) b m q r Memory on h = tt
 
-  pub item_refused : (a b : Option (List ℕ)) (m q r : ℕ) (x : Item) (st : ItemFault) (e : DecodeFault) (on : Found → Reader) → ReadsAs item_view a b m q (Ok x) (item_at W) → Takes p W (item_view x) (Err st) → IsStop st m e → ReadsOn (found_at p fs (found.Wants W)) a b m r (Err e) on
+  pub item_refused : (a b : Option (List ℕ)) (m q r : ℕ) (x : Item) (st : Fault Cause) (e : DecodeFault) (on : Found → Reader) → ReadsAs item_view a b m q (Ok x) (item_at W) → Takes p W (item_view x) (Err st) → IsStop st m e → ReadsOn (found_at p fs (found.Wants W)) a b m r (Err e) on
   item_refused None b m q r x st e on h t is = tt
   item_refused (Some bytes) b m q r x (stop.Refused cause) e on h t is =
       subst (λ (f : DecodeFault). FailsAs f (found_at p fs (found.Wants W) (spot m bytes))) (sym is)
@@ -63,11 +64,11 @@ pub settled_well : (p : PlanView) (new : List StackFrame) (old : Reader) (work q
 settled_well p new old work q (Ok f) s = (s.0.frames, s.0.is_well)
 settled_well p new old work q (Err e) s = tt
 
-pub settles_stop : (p : PlanView) (new : List StackFrame) (old : Reader) (work place : ℕ) (st : ItemFault) (e : DecodeFault) → Settles p old work new (Err st) → IsStop st place e → SettlesAt p old work place new (Err e)
+pub settles_stop : (p : PlanView) (new : List StackFrame) (old : Reader) (work place : ℕ) (st : Fault Cause) (e : DecodeFault) → Settles p old work new (Err st) → IsStop st place e → SettlesAt p old work place new (Err e)
 settles_stop p new old work place (stop.Refused cause) e s is = subst (λ (f : DecodeFault). SettlesAt p old work place new (Err f)) (sym is) (s.0, λ b. s.1 (spot place b))
 settles_stop p new old work place stop.Memory e s is = subst (λ (f : DecodeFault). SettlesAt p old work place new (Err f)) (sym is) tt
 
-pub settles_err : (p : PlanView) (old mid : Reader) (work less : ℕ) (fs : List StackFrame) (e : ItemFault) → ((s : Spot) → old s ≡ mid s) → Steps p mid less fs (Err e) → Settles p old work fs (Err e)
+pub settles_err : (p : PlanView) (old mid : Reader) (work less : ℕ) (fs : List StackFrame) (e : Fault Cause) → ((s : Spot) → old s ≡ mid s) → Steps p mid less fs (Err e) → Settles p old work fs (Err e)
 settles_err p old mid work less fs (stop.Refused cause) same s = (s.0, λ r. same r ∙ s.1 r)
 settles_err p old mid work less fs stop.Memory same s = tt
 

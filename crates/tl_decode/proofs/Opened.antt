@@ -18,7 +18,7 @@ use Rattle.tl_decode.specs.declared.stack.WantedItem.TheVariants as wanted
 use Rattle.tl_decode.specs.declared.stack.Next.TheVariants as next
 use Rattle.tl_decode.specs.declared.stack.Found.TheVariants as found
 use Rattle.tl_decode.specs.declared.stack.Advance.TheVariants as step
-use Rattle.tl_decode.specs.declared.stack.ItemFault.TheVariants as stop
+use Rattle.tl_base.specs.declared.fault.Fault.TheVariants as stop
 use Rattle.tl_decode.specs.inner.Frames.{StackFrameView, ItemView, word, plain, frame_view, views, type_in, entry_in, goes_on, resumes, item_at, after, number_at, wanted_at, levels_in, levels_below, next_at, found_at, next_work, found_work, wanted_work, cost, IsWellWanted, AreWell, IsWellFrame, IsFresh, IsList, IsNumbered, IsBare, StepsFrom, parts_left}
 use Rattle.tl_decode.proofs.FrameLists.{resume_err, cost_least, cost_more, parts_few}
 

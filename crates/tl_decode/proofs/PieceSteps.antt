@@ -22,8 +22,9 @@ use Rattle.tl_decode.specs.declared.stack.Next.{Next}
 use Rattle.tl_decode.specs.declared.stack.Found.{Found}
 use Rattle.tl_decode.specs.declared.stack.Found.TheVariants as found
 use Rattle.tl_decode.specs.declared.stack.Reading.{Reading}
-use Rattle.tl_decode.specs.declared.stack.ItemFault.{ItemFault}
-use Rattle.tl_decode.specs.declared.stack.ItemFault.TheVariants as stop
+use Rattle.tl_base.specs.declared.fault.Fault.{Fault}
+use Rattle.tl_base.specs.declared.fault.Fault.TheVariants as stop
+use Rattle.tl_types.specs.declared.cause.Cause.{Cause}
 use Rattle.tl_decode.specs.inner.Frames.{StackFrameView, ItemView, views, word, item_view, goes_after, levels_below, next_at, found_at, next_work, found_work, resumes, IsStop, IsWellWanted, SettlesAt, SettlesFrom, Takes}
 use Rattle.tl_decode.specs.inner.Needs.{EndsWords, FindsItem, IsInOrder, TakesItem, TakesPiece, TakesWords, needs, piece_work, reads_on}
 use Rattle.tl_decode.proofs.FrameLists.{resume_err}
@@ -41,7 +42,7 @@ after_goes p fs W place then work x n new (Err (fault.Refused q cause)) t s = (s
 after_goes p fs W place then work x n new (Err fault.ReadFault) t s = s
 after_goes p fs W place then work x n new (Err fault.Memory) t s = tt
 
-pub after_stops : (p : PlanView) (fs : List StackFrameView) (W : WantedItem) (place then work : ℕ) (x : ItemView) (st : ItemFault) (e : DecodeFault) (new : List StackFrame) → Takes p W x (Err st) → IsStop st place e → SettlesAt p (goes_after p fs W place x) work then new (Err e)
+pub after_stops : (p : PlanView) (fs : List StackFrameView) (W : WantedItem) (place then work : ℕ) (x : ItemView) (st : Fault Cause) (e : DecodeFault) (new : List StackFrame) → Takes p W x (Err st) → IsStop st place e → SettlesAt p (goes_after p fs W place x) work then new (Err e)
 after_stops p fs W place then work x (stop.Refused cause) e new t is =
     subst (λ (f : DecodeFault). SettlesAt p (goes_after p fs W place x) work then new (Err f)) (sym is) (t.0, λ b. ap (resumes p fs) (t.1 (levels_below fs) place (spot then b)) ∙ resume_err p.schema.decls MAX_LEVELS fs _)
 after_stops p fs W place then work x stop.Memory e new t is = subst (λ (f : DecodeFault). SettlesAt p (goes_after p fs W place x) work then new (Err f)) (sym is) tt
@@ -77,7 +78,7 @@ module _ (p : PlanView) (old new : Reading) (at then : ℕ) (next : List ℕ) (x
   item_error work least fault.ReadFault s = s
   item_error work least fault.Memory s = tt
 
-pub item_stop : (p : PlanView) (old new : Reading) (at then work : ℕ) (next : List ℕ) (st : ItemFault) (e : DecodeFault) → FindsItem old.wanted old.held.items new.held.items next (Err st) → IsStop st at e → TakesItem p (reads_on p old at) work next new then (Err e)
+pub item_stop : (p : PlanView) (old new : Reading) (at then work : ℕ) (next : List ℕ) (st : Fault Cause) (e : DecodeFault) → FindsItem old.wanted old.held.items new.held.items next (Err st) → IsStop st at e → TakesItem p (reads_on p old at) work next new then (Err e)
 item_stop p old new at then work next (stop.Refused cause) e f is =
     let fs = views p old.frames.items in
     subst (λ (g : DecodeFault). TakesItem p (reads_on p old at) work next new then (Err g)) (sym is)

@@ -21,8 +21,9 @@ use Rattle.tl_decode.specs.declared.fault.DecodeFault.TheVariants.{Refused, Read
 use Rattle.tl_decode.specs.declared.stack.WantedItem.{WantedItem}
 use Rattle.tl_decode.specs.declared.stack.WantedItem.TheVariants as wanted
 use Rattle.tl_decode.specs.declared.stack.Item.{Item}
-use Rattle.tl_decode.specs.declared.stack.ItemFault.{ItemFault}
-use Rattle.tl_decode.specs.declared.stack.ItemFault.TheVariants as stop
+use Rattle.tl_base.specs.declared.fault.Fault.{Fault as ItemFault}
+use Rattle.tl_base.specs.declared.fault.Fault.TheVariants as stop
+use Rattle.tl_types.specs.declared.cause.Cause.{Cause}
 use Rattle.tl_decode.specs.inner.Steps.{FailsAs, OrEnds, ReadsAs}
 use Rattle.tl_decode.specs.inner.Frames.{ItemView, item_at, item_view, IsStop, IsWellWanted, item_value, item_value_at, plain, word}
 use Rattle.tl_decode.specs.inner.Needs.{head_needs, needs, text_needs, IsWhole, IsWholeAt}
@@ -119,7 +120,7 @@ module _ (W : WantedItem) (w : List ℕ) (four : length w ≡ 4) (place n : ℕ)
       let j = joins p q bytes out h.0 start h.2 in
       (h.0, h.1, ap (λ (z : List ℕ). item_at W (spot place z)) j.split ∙ is place h.0 ∙ ap (λ (k : ℕ). Ok (item_view x, spot k h.0)) (sym j.at))
 
-  pub after_stop : (out : List ℕ) (a b : Option (List ℕ)) (p q r : ℕ) (st : ItemFault) (e : DecodeFault) → p ≡ moved place 4 → ReadsAs {X = Unit {0}} (λ _. out) a b p q (Ok tt) (added_at w place n) → IsWhole W out (Err st) → IsStop st place e → ReadsAs {X = Item} item_view a b p r (Err e) whole
+  pub after_stop : (out : List ℕ) (a b : Option (List ℕ)) (p q r : ℕ) (st : ItemFault Cause) (e : DecodeFault) → p ≡ moved place 4 → ReadsAs {X = Unit {0}} (λ _. out) a b p q (Ok tt) (added_at w place n) → IsWhole W out (Err st) → IsStop st place e → ReadsAs {X = Item} item_view a b p r (Err e) whole
   after_stop out None b p q r st e start h is same = tt
   after_stop out (Some bytes) b p q r (stop.Refused cause) e start h is same =
       let j = joins p q bytes out h.0 start h.2 in
@@ -137,7 +138,7 @@ module _ (W : WantedItem) (w : List ℕ) (four : length w ≡ 4) (place : ℕ) w
   first_whole (Some bytes) p (Ok x) start is = (bytes, refl, is place bytes ∙ ap (λ (k : ℕ). Ok (item_view x, spot k bytes)) (ap (moved place) four ∙ sym start))
   first_whole (Some bytes) p (Err e) start is = by is.0 is.1 is.2
     where
-      by : (st : ItemFault) → IsStop st place e → IsWhole W w (Err st) → FailsAs e (item_at W (spot place (w ++ bytes)))
+      by : (st : ItemFault Cause) → IsStop st place e → IsWhole W w (Err st) → FailsAs e (item_at W (spot place (w ++ bytes)))
       by (stop.Refused cause) same k = subst (λ (f : DecodeFault). FailsAs f (item_at W (spot place (w ++ bytes)))) (sym same) (k.1 place bytes)
       by stop.Memory same k = subst (λ (f : DecodeFault). FailsAs f (item_at W (spot place (w ++ bytes)))) (sym same) tt
 

@@ -6,10 +6,10 @@ ghost use Rattle.tl_types.specs.Values.{long};
 ghost use Rattle.tl_types.specs.inner.Reading.{text_head_of};
 ghost use Rattle.tl_decode.specs.inner.Needs.{Fills, FindsItem, IsWhole, head_needs, needs, text_needs};
 
-use crate::stack::{Item, ItemFault, WantedItem};
+use crate::stack::{Item, WantedItem};
 use crate::texts::{head_of, is_zero, missing_of};
 use std::alloc::{AllocError, Global};
-use tl_base::Bytes;
+use tl_base::{Bytes, Fault};
 use tl_types::{Cause, Value};
 
 /// The item that begins in the held bytes and goes on in the next ones, and how many of these it takes. Where it isn't whole there, these are held too.
@@ -19,7 +19,7 @@ pub fn next_item(
     wanted: WantedItem,
     held: &mut Vec<u8>,
     next: &[u8],
-) -> Result<Option<(Item, usize)>, ItemFault>
+) -> Result<Option<(Item, usize)>, Fault<Cause>>
     requires { length held.old.items < needs wanted held.old.items }
     ensures { FindsItem wanted held.old.items held.new.items next.now result }
 {
@@ -130,7 +130,7 @@ fn eight_bytes(bytes: &[u8]) -> [u8; 8]
 }
 
 /// The item that these bytes are.
-pub fn whole_item(alloc: Global, wanted: WantedItem, bytes: &[u8]) -> Result<Item, ItemFault>
+pub fn whole_item(alloc: Global, wanted: WantedItem, bytes: &[u8]) -> Result<Item, Fault<Cause>>
     requires { length bytes.now ≡ needs wanted bytes.now }
     ensures { IsWhole wanted bytes.now result }
 {
@@ -174,18 +174,18 @@ pub fn word_in(bytes: &[u8]) -> u32
     u32::from_le_bytes(four_bytes(bytes))
 }
 
-fn whole_text(alloc: Global, bytes: &[u8]) -> Result<Item, ItemFault>
+fn whole_text(alloc: Global, bytes: &[u8]) -> Result<Item, Fault<Cause>>
     requires { length bytes.now ≡ text_needs bytes.now }
     ensures { IsWhole WantedItem.Text bytes.now result }
 {
     match head_of(four_bytes(bytes)) {
         Ok((head, length)) => text_item(alloc, bytes, head as usize, length as usize),
-        Err(cause) => Err(ItemFault::Refused { cause }),
+        Err(cause) => Err(Fault::Refused(cause)),
     }
 }
 
 // A string with such a head and text.
-fn text_item(alloc: Global, bytes: &[u8], head: usize, size: usize) -> Result<Item, ItemFault>
+fn text_item(alloc: Global, bytes: &[u8], head: usize, size: usize) -> Result<Item, Fault<Cause>>
     requires head { text_head_of (take 4 bytes.now) ≡ Ok (head, size) }
     requires few { head ≤ 4 }
     requires all { length bytes.now ≡ head_needs (Ok (head, size)) }
@@ -193,9 +193,7 @@ fn text_item(alloc: Global, bytes: &[u8], head: usize, size: usize) -> Result<It
     ensures { IsWhole WantedItem.Text bytes.now result }
 {
     if !is_zero(&bytes[head + size..]) {
-        return Err(ItemFault::Refused {
-            cause: Cause::BadPadding,
-        });
+        return Err(Fault::Refused(Cause::BadPadding));
     }
     let text = Bytes::from_slice(alloc, &bytes[head..head + size])?;
     Ok(Item::Plain {

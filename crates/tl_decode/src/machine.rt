@@ -4,10 +4,11 @@ ghost use Rattle.tl_decode.specs.inner.Frames.{AreWell, ClosesPart, GoesOn, IsWe
 
 use crate::opening::{onward, open};
 use crate::parts::{add, part};
-use crate::stack::{Advance, Found, ItemFault, Next, Onward, StackFrame, WantedItem};
+use crate::stack::{Advance, Found, Next, Onward, StackFrame, WantedItem};
 use std::alloc::{AllocError, Global};
+use tl_base::Fault;
 use tl_plan::Plan;
-use tl_types::Value;
+use tl_types::{Cause, Value};
 
 /// Everything that needs no bytes, until an item is looked for or the value is there.
 pub fn settle(
@@ -15,7 +16,7 @@ pub fn settle(
     plan: &Plan,
     frames: &mut Vec<StackFrame>,
     first: Next,
-) -> Result<Found, ItemFault>
+) -> Result<Found, Fault<Cause>>
     requires frames { AreWell plan.now frames.old.items }
     requires first { IsWellNext plan.now first }
     ensures { SettlesFrom plan.now frames.old.items first frames.new.items result }
@@ -34,7 +35,7 @@ fn step(
     plan: &Plan,
     frames: &mut Vec<StackFrame>,
     next: Next,
-) -> Result<Advance, ItemFault>
+) -> Result<Advance, Fault<Cause>>
     requires frames { AreWell plan.now frames.old.items }
     requires next { IsWellNext plan.now next }
     ensures { StepsFrom plan.now frames.old.items next frames.new.items result }
@@ -57,7 +58,7 @@ fn close(
     plan: &Plan,
     frames: &mut Vec<StackFrame>,
     value: Value,
-) -> Result<Advance, ItemFault>
+) -> Result<Advance, Fault<Cause>>
     requires frames { AreWell plan.now frames.old.items }
     ensures { StepsFrom plan.now frames.old.items (Next.Close value) frames.new.items result }
 {
@@ -95,7 +96,7 @@ pub fn go_on(
     plan: &Plan,
     frames: &mut Vec<StackFrame>,
     onward: Onward,
-) -> Result<Found, ItemFault>
+) -> Result<Found, Fault<Cause>>
     requires goes { (old : List StackFrame) × (v : Value) × GoesOn plan.now old v frames.old.items onward }
     requires some { 0 < length frames.old.items }
     ensures { (old : List StackFrame) (v : Value) → GoesOn plan.now old v frames.old.items onward → SettlesFrom plan.now old (Next.Close v) frames.new.items result }

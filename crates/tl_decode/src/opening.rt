@@ -3,8 +3,9 @@ ghost use Rattle.std.specs.Prelude.{◌≡◌, ◌<◌, IfOk, IfSome, List, Ok, 
 ghost use Rattle.tl_plan.specs.Plans.{IsPlan};
 ghost use Rattle.tl_decode.specs.inner.Frames.{AreWell, GoesOn, IsBare, IsFresh, IsInPlan, IsItem, IsList, IsNumbered, StepsFrom, members_in, type_in};
 
-use crate::stack::{Advance, Found, ItemFault, Next, Onward, StackFrame, WantedItem};
+use crate::stack::{Advance, Found, Next, Onward, StackFrame, WantedItem};
 use std::alloc::{AllocError, Global};
+use tl_base::Fault;
 use tl_plan::{Plan, TypeForm};
 use tl_types::{Cause, MAX_LEVELS, Value};
 
@@ -16,7 +17,7 @@ pub fn open(
     plan: &Plan,
     frames: &Vec<StackFrame>,
     of: u32,
-) -> Result<Advance, ItemFault>
+) -> Result<Advance, Fault<Cause>>
     requires frames { AreWell plan.now frames.now.items }
     requires within { IsInPlan plan.now of }
     ensures { StepsFrom plan.now frames.now.items (Next.Open of) frames.now.items result }
@@ -92,16 +93,14 @@ fn open_list(
     frames: &Vec<StackFrame>,
     of: u32,
     boxed: bool,
-) -> Result<Advance, ItemFault>
+) -> Result<Advance, Fault<Cause>>
     requires frames { AreWell plan.now frames.now.items }
     requires within { IsInPlan plan.now of }
     requires list { IsList (type_in plan.now of) boxed }
     ensures { StepsFrom plan.now frames.now.items (Next.Open of) frames.now.items result }
 {
     if frames.len() >= MAX_LEVELS as usize {
-        return Err(ItemFault::Refused {
-            cause: Cause::TooDeep,
-        });
+        return Err(Fault::Refused(Cause::TooDeep));
     }
     match plan.instance(of).item {
         Some(item) => {
@@ -116,16 +115,14 @@ fn open_list(
 }
 
 // A boxed value or a call: its number is looked for.
-fn open_numbered(plan: &Plan, frames: &Vec<StackFrame>, of: u32) -> Result<Advance, ItemFault>
+fn open_numbered(plan: &Plan, frames: &Vec<StackFrame>, of: u32) -> Result<Advance, Fault<Cause>>
     requires frames { AreWell plan.now frames.now.items }
     requires within { IsInPlan plan.now of }
     requires numbered { IsNumbered (type_in plan.now of) }
     ensures { StepsFrom plan.now frames.now.items (Next.Open of) frames.now.items result }
 {
     if frames.len() >= MAX_LEVELS as usize {
-        return Err(ItemFault::Refused {
-            cause: Cause::TooDeep,
-        });
+        return Err(Fault::Refused(Cause::TooDeep));
     }
     Ok(wants(WantedItem::Number { of }))
 }
@@ -137,7 +134,7 @@ fn open_bare(
     frames: &Vec<StackFrame>,
     of: u32,
     entry: u32,
-) -> Result<Advance, ItemFault>
+) -> Result<Advance, Fault<Cause>>
     requires frames { AreWell plan.now frames.now.items }
     requires within { IsInPlan plan.now of }
     requires bare { IsBare (type_in plan.now of) entry }
@@ -145,9 +142,7 @@ fn open_bare(
     ensures { StepsFrom plan.now frames.now.items (Next.Open of) frames.now.items result }
 {
     if frames.len() >= MAX_LEVELS as usize {
-        return Err(ItemFault::Refused {
-            cause: Cause::TooDeep,
-        });
+        return Err(Fault::Refused(Cause::TooDeep));
     }
     let top = begin(alloc, plan, of, 0)?;
     Ok(Advance::Goes {

@@ -4,10 +4,11 @@ ghost use Rattle.tl_types.specs.Seen.{view, views as values};
 ghost use Rattle.tl_decode.specs.inner.Frames.{Adds, AreWell, Comes, IsWellFrame, StepsFrom, made, type_in};
 
 use crate::opening::open;
-use crate::stack::{Advance, Coming, ItemFault, Next, StackFrame};
+use crate::stack::{Advance, Coming, Next, StackFrame};
 use std::alloc::{AllocError, Global};
+use tl_base::Fault;
 use tl_plan::{Plan, TypeForm};
-use tl_types::{Value, stands};
+use tl_types::{Cause, Value, stands};
 
 /// The next part is opened, or the list or record is whole.
 pub fn part(
@@ -15,7 +16,7 @@ pub fn part(
     plan: &Plan,
     frames: &mut Vec<StackFrame>,
     top: StackFrame,
-) -> Result<Advance, ItemFault>
+) -> Result<Advance, Fault<Cause>>
     requires frames { AreWell plan.now frames.old.items }
     requires top { IsWellFrame plan.now top }
     ensures { StepsFrom plan.now frames.old.items (Next.Part top) frames.new.items result }
@@ -33,7 +34,7 @@ fn element(
     item: u32,
     left: u32,
     items: Vec<Value>,
-) -> Result<Advance, ItemFault>
+) -> Result<Advance, Fault<Cause>>
     requires frames { AreWell plan.now frames.old.items }
     requires top { IsWellFrame plan.now (StackFrame.List item left items) }
     ensures { StepsFrom plan.now frames.old.items (Next.Part (StackFrame.List item left items)) frames.new.items result }
@@ -61,7 +62,7 @@ fn field(
     of: u32,
     member: usize,
     mut fields: Vec<Value>,
-) -> Result<Advance, ItemFault>
+) -> Result<Advance, Fault<Cause>>
     requires frames { AreWell plan.now frames.old.items }
     requires top { IsWellFrame plan.now (StackFrame.Record of member fields) }
     ensures { StepsFrom plan.now frames.old.items (Next.Part (StackFrame.Record of member fields)) frames.new.items result }

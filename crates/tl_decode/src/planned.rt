@@ -17,12 +17,12 @@ ghost use Rattle.tl_decode.specs.inner.Steps.{ReadsAs};
 use crate::fault::DecodeFault;
 use crate::items::item_of;
 use crate::machine::settle;
-use crate::stack::{Found, ItemFault, Next, StackFrame, WantedItem};
+use crate::stack::{Found, Next, StackFrame, WantedItem};
 use crate::taking::take;
 use std::alloc::Global;
-use tl_base::Source;
+use tl_base::{Fault, Source};
 use tl_plan::Plan;
-use tl_types::{MAX_LEVELS, Value};
+use tl_types::{Cause, MAX_LEVELS, Value};
 
 /// Reads the value of a root of a plan, and takes exactly its bytes. `at` rises by their number, up to 2^64 - 1. After a refusal the source isn't
 /// read again. Memory is taken for what was read, never for a length or a count that was only announced.
@@ -130,11 +130,11 @@ pub fn settle_at(
 }
 
 /// The fault of a stop at a place.
-pub fn stopped(stop: ItemFault, place: u64) -> DecodeFault
+pub fn stopped(stop: Fault<Cause>, place: u64) -> DecodeFault
     ensures { IsStop stop place result }
 {
     match stop {
-        ItemFault::Refused { cause } => DecodeFault::Refused { place, cause },
-        ItemFault::Memory => DecodeFault::Memory,
+        Fault::Refused(cause) => DecodeFault::Refused { place, cause },
+        Fault::Memory => DecodeFault::Memory,
     }
 }

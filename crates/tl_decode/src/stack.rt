@@ -1,6 +1,5 @@
 //! How far a value is read: the lists and records that were begun, and what comes next.
 use crate::fault::DecodeFault;
-use std::alloc::{AllocError, AllocFailed};
 use tl_types::{Cause, Value};
 
 /// A list or a record that was begun.
@@ -126,33 +125,4 @@ pub enum Fed {
     More,
     /// The value is there. It ends after so many bytes of the piece.
     Done { used: usize },
-}
-
-/// Why reading doesn't go on.
-pub enum ItemFault {
-    /// The bytes are refused at the item that is looked for.
-    Refused { cause: Cause },
-    Memory,
-}
-
-impl From<AllocError> for ItemFault {
-    ghost use Rattle.std.specs.Prelude.{◌≡◌};
-    ghost use Rattle.tl_decode.specs.declared.stack.ItemFault.TheVariants.{Memory};
-
-    ghost from_gives = { λ _ e. e ≡ Memory };
-
-    fn from(_e: AllocError) -> ItemFault {
-        ItemFault::Memory
-    }
-}
-
-impl<T: Drop> From<AllocFailed<T>> for ItemFault {
-    ghost use Rattle.std.specs.Prelude.{◌≡◌};
-    ghost use Rattle.tl_decode.specs.declared.stack.ItemFault.TheVariants.{Memory};
-
-    ghost from_gives = { λ _ e. e ≡ Memory };
-
-    fn from(_e: AllocFailed<T>) -> ItemFault {
-        ItemFault::Memory
-    }
 }

@@ -6,15 +6,20 @@ ghost use Rattle.tl_decode.specs.inner.Frames.{IsInPlan, IsWellWanted, Takes, en
 use crate::decoder::wrong;
 use crate::members::{function, member};
 use crate::opening::begin;
-use crate::stack::{Item, ItemFault, Next, StackFrame, WantedItem};
+use crate::stack::{Item, Next, StackFrame, WantedItem};
 use std::alloc::Global;
-use tl_base::BOXED_VECTOR;
+use tl_base::{BOXED_VECTOR, Fault};
 use tl_plan::{Member, Plan, TypeForm};
 use tl_types::{Cause, Value};
 
 /// The item that was looked for is there.
 #[inline(always)]
-pub fn take(alloc: Global, plan: &Plan, wanted: WantedItem, item: Item) -> Result<Next, ItemFault>
+pub fn take(
+    alloc: Global,
+    plan: &Plan,
+    wanted: WantedItem,
+    item: Item,
+) -> Result<Next, Fault<Cause>>
     requires { IsWellWanted plan.now wanted }
     ensures { Takes plan.now wanted (item_view item) result }
 {
@@ -24,7 +29,12 @@ pub fn take(alloc: Global, plan: &Plan, wanted: WantedItem, item: Item) -> Resul
     }
 }
 
-fn take_word(alloc: Global, plan: &Plan, wanted: WantedItem, word: u32) -> Result<Next, ItemFault>
+fn take_word(
+    alloc: Global,
+    plan: &Plan,
+    wanted: WantedItem,
+    word: u32,
+) -> Result<Next, Fault<Cause>>
     requires { IsWellWanted plan.now wanted }
     ensures { Takes plan.now wanted (item_view (Item.Word word)) result }
 {
@@ -50,24 +60,22 @@ fn take_word(alloc: Global, plan: &Plan, wanted: WantedItem, word: u32) -> Resul
     }
 }
 
-fn take_list_number(plan: &Plan, item: u32, word: u32) -> Result<Next, ItemFault>
+fn take_list_number(plan: &Plan, item: u32, word: u32) -> Result<Next, Fault<Cause>>
     requires { IsInPlan plan.now item }
     ensures { Takes plan.now (WantedItem.ListNumber item) (item_view (Item.Word word)) result }
 {
     if word != BOXED_VECTOR {
-        return Err(ItemFault::Refused { cause: wrong(word) });
+        return Err(Fault::Refused(wrong(word)));
     }
     Ok(Next::Begin { item })
 }
 
-fn take_count(alloc: Global, plan: &Plan, item: u32, word: u32) -> Result<Next, ItemFault>
+fn take_count(alloc: Global, plan: &Plan, item: u32, word: u32) -> Result<Next, Fault<Cause>>
     requires { IsInPlan plan.now item }
     ensures { Takes plan.now (WantedItem.Count item) (item_view (Item.Word word)) result }
 {
     if word >= 0x8000_0000 {
-        return Err(ItemFault::Refused {
-            cause: Cause::BadCount { word },
-        });
+        return Err(Fault::Refused(Cause::BadCount { word }));
     }
     Ok(Next::Part {
         top: StackFrame::List {
@@ -78,12 +86,12 @@ fn take_count(alloc: Global, plan: &Plan, item: u32, word: u32) -> Result<Next, 
     })
 }
 
-fn take_number(alloc: Global, plan: &Plan, of: u32, word: u32) -> Result<Next, ItemFault>
+fn take_number(alloc: Global, plan: &Plan, of: u32, word: u32) -> Result<Next, Fault<Cause>>
     requires { IsInPlan plan.now of }
     ensures { Takes plan.now (WantedItem.Number of) (item_view (Item.Word word)) result }
 {
     match found(plan, of, word) {
-        None => Err(ItemFault::Refused { cause: wrong(word) }),
+        None => Err(Fault::Refused(wrong(word))),
         Some(member) => Ok(Next::Part {
             top: begin(alloc, plan, of, member)?,
         }),

@@ -36,8 +36,8 @@ use Rattle.tl_decode.specs.declared.stack.Found.{Found}
 use Rattle.tl_decode.specs.declared.stack.Found.TheVariants as found
 use Rattle.tl_decode.specs.declared.stack.Advance.{Advance}
 use Rattle.tl_decode.specs.declared.stack.Advance.TheVariants as step
-use Rattle.tl_decode.specs.declared.stack.ItemFault.{ItemFault}
-use Rattle.tl_decode.specs.declared.stack.ItemFault.TheVariants as stop
+use Rattle.tl_base.specs.declared.fault.Fault.{Fault}
+use Rattle.tl_base.specs.declared.fault.Fault.TheVariants as stop
 
 -- ---- a plan
 
@@ -255,20 +255,20 @@ pub record Goes (p : PlanView) (fs : List StackFrame) (old new : Reader) (well :
   pub is_well : well
   pub same : (s : Spot) → old s ≡ new s
 
-abbrev pub Steps : PlanView → Reader → ℕ → List StackFrame → Result Advance ItemFault → Type 0
+abbrev pub Steps : PlanView → Reader → ℕ → List StackFrame → Result Advance (Fault Cause) → Type 0
 Steps p old work fs (Ok (step.Goes n)) = Goes p fs old (next_at p (views p fs) n) (IsWellNext p n) × (next_work p (views p fs) n < work)
 Steps p old work fs (Ok (step.Stops f)) = Goes p fs old (found_at p (views p fs) f) (IsWellFound p f) × (found_work p (views p fs) f ≤ work)
 Steps p old work fs (Err (stop.Refused cause)) = (is_truncated cause ≡ false) × ((s : Spot) → old s ≡ Err (s.place, cause))
 Steps p old work fs (Err stop.Memory) = Unit {0}
 
 -- reading goes on until an item is looked for, or the value is there
-abbrev pub Settles : PlanView → Reader → ℕ → List StackFrame → Result Found ItemFault → Type 0
+abbrev pub Settles : PlanView → Reader → ℕ → List StackFrame → Result Found (Fault Cause) → Type 0
 Settles p old work fs (Ok f) = Goes p fs old (found_at p (views p fs) f) (IsWellFound p f) × (found_work p (views p fs) f ≤ work)
 Settles p old work fs (Err (stop.Refused cause)) = (is_truncated cause ≡ false) × ((s : Spot) → old s ≡ Err (s.place, cause))
 Settles p old work fs (Err stop.Memory) = Unit {0}
 
 -- what comes after an item that was looked for, inside any frames
-abbrev pub Takes : PlanView → WantedItem → ItemView → Result Next ItemFault → Type 0
+abbrev pub Takes : PlanView → WantedItem → ItemView → Result Next (Fault Cause) → Type 0
 Takes p W x (Ok n) =
     IsWellNext p n × ((fs : List StackFrameView) (place : ℕ) (s : Spot) → resumes p fs (after p (levels_below fs) W place x s) ≡ next_at p fs n s)
     × ((fs : List StackFrameView) → next_work p fs n < frames_work MAX_LEVELS fs + wanted_work (levels_below fs) W)
@@ -276,10 +276,10 @@ Takes p W x (Err (stop.Refused cause)) = (is_truncated cause ≡ false) × ((n p
 Takes p W x (Err stop.Memory) = Unit {0}
 
 -- a step from what is to be done next inside these frames
-abbrev pub StepsFrom : PlanView → List StackFrame → Next → List StackFrame → Result Advance ItemFault → Type 0
+abbrev pub StepsFrom : PlanView → List StackFrame → Next → List StackFrame → Result Advance (Fault Cause) → Type 0
 StepsFrom p fs n new result = Steps p (next_at p (views p fs) n) (next_work p (views p fs) n) new result
 
-abbrev pub SettlesFrom : PlanView → List StackFrame → Next → List StackFrame → Result Found ItemFault → Type 0
+abbrev pub SettlesFrom : PlanView → List StackFrame → Next → List StackFrame → Result Found (Fault Cause) → Type 0
 SettlesFrom p fs n new result = Settles p (next_at p (views p fs) n) (next_work p (views p fs) n) new result
 
 -- ---- steps inside any frames
@@ -360,7 +360,7 @@ SettlesAt p old work place fs (Err fault.ReadFault) = ⊥
 SettlesAt p old work place fs (Err fault.Memory) = Unit {0}
 
 -- a stop at a place is this fault
-abbrev pub IsStop : ItemFault → ℕ → DecodeFault → Type 0
+abbrev pub IsStop : Fault Cause → ℕ → DecodeFault → Type 0
 IsStop (stop.Refused cause) place e = e ≡ fault.Refused place cause
 IsStop stop.Memory place e = e ≡ fault.Memory
 

@@ -19,8 +19,8 @@ use Rattle.tl_decode.specs.declared.stack.Next.TheVariants as next_step
 use Rattle.tl_decode.specs.declared.stack.Found.{Found}
 use Rattle.tl_decode.specs.declared.stack.Found.TheVariants as found
 use Rattle.tl_decode.specs.declared.stack.Reading.{Reading}
-use Rattle.tl_decode.specs.declared.stack.ItemFault.{ItemFault}
-use Rattle.tl_decode.specs.declared.stack.ItemFault.TheVariants as stop
+use Rattle.tl_base.specs.declared.fault.Fault.{Fault}
+use Rattle.tl_base.specs.declared.fault.Fault.TheVariants as stop
 use Rattle.tl_decode.specs.inner.Frames.{views, item_at, item_view, found_at, found_work, is_truncated, AreWell, IsStop, IsWellFound, IsWellWanted, Takes, word}
 
 -- ---- items
@@ -41,7 +41,7 @@ needs wanted.Text b = text_needs b
 needs W b = 4
 
 -- these bytes are the item, however the input goes on, or they are refused
-abbrev pub IsWhole : WantedItem → List ℕ → Result Item ItemFault → Type 0
+abbrev pub IsWhole : WantedItem → List ℕ → Result Item (Fault Cause) → Type 0
 IsWhole W b (Ok x) = (p : ℕ) (more : List ℕ) → item_at W (spot p (b ++ more)) ≡ Ok (item_view x, spot (moved p (length b)) more)
 IsWhole W b (Err (stop.Refused cause)) = (is_truncated cause ≡ false) × ((p : ℕ) (more : List ℕ) → item_at W (spot p (b ++ more)) ≡ Err (p, cause))
 IsWhole W b (Err stop.Memory) = Unit {0}
@@ -49,7 +49,7 @@ IsWhole W b (Err stop.Memory) = Unit {0}
 -- the same, at a place
 abbrev pub IsWholeAt : WantedItem → List ℕ → ℕ → Result Item DecodeFault → Type 0
 IsWholeAt W b p (Ok x) = IsWhole W b (Ok x)
-IsWholeAt W b p (Err e) = (st : ItemFault) × IsStop st p e × IsWhole W b (Err st)
+IsWholeAt W b p (Err e) = (st : Fault Cause) × IsStop st p e × IsWhole W b (Err st)
 
 -- So many of the next bytes came to those that are held: all of them, unless the item is whole.
 pub record Fills (W : WantedItem) (old new next : List ℕ) (count : ℕ) : Type 0 where
@@ -59,7 +59,7 @@ pub record Fills (W : WantedItem) (old new next : List ℕ) (count : ℕ) : Type
   pub all : length new < needs W new → count ≡ length next
 
 -- The item begins in the held bytes and goes on in the next ones; where it isn't whole there, these are held too.
-abbrev pub FindsItem : WantedItem → List ℕ → List ℕ → List ℕ → Result (Option (Item × ℕ)) ItemFault → Type 0
+abbrev pub FindsItem : WantedItem → List ℕ → List ℕ → List ℕ → Result (Option (Item × ℕ)) (Fault Cause) → Type 0
 FindsItem W old new next (Ok None) = (new ≡ old ++ next) × (length new < needs W new)
 FindsItem W old new next (Ok (Some x)) =
     (new ≡ []) × (x.1 ≤ length next)
