@@ -211,7 +211,7 @@ module _ (p : ProfileView) (good : IsProfile p) where
           server = t;
           more = kept_in d row.came_calls;
           ended = peer_fault line;
-          session = record { answer = Err (fault.Packet f); calls = row.came_calls; serves = (row.left, ex, less, lacks); entries = refl; word = word; ended = ap (λ (l : List ℕ). Some (peer_fault l)) tells };
+          session = record { answer = Err (fault.Packet f); calls = row.came_calls; serves = (row.left, ex, less, lacks); entries = refl; word = word; ended = ap peer_fault tells };
           whole = tt;
           stays = stays;
         }

@@ -33,9 +33,6 @@ use Rattle.session_commands.proofs.OneCall.{never_call, one_call}
 use Rattle.session_commands.proofs.OneReply.{body_bytes}
 use Rattle.session_commands.proofs.OneExchange.{Ended, AreOne, one_ended, rest_bytes}
 
-some_is : (d e : SessionEnd) → Some d ≡ Some e → d ≡ e
-some_is d e is = cc
-
 module _ (p : ProfileView) (good : IsProfile p) where
   pub one_of : (b : List ℕ) → AreBytes b → (m n : Numbered) → MeansCall p m b → MeansCall p n b → m ≡ n
   one_of b are m n means says = one_call p good b are m n means says
@@ -91,14 +88,14 @@ module _ (p : ProfileView) (good : IsProfile p) where
     ends = ends;
   }
 
-  pub closed : (s : ServerState) (bytes : List ℕ) → AreBytes bytes → (out : List ℕ) (t : ServerState) (r : Result ℕ SessionFault) (cs : List Numbered) (e : SessionEnd) → Serves p s bytes out t r cs → IsShortEnd r → end_of r ≡ Some e → IsWhole e → Closed s bytes out t r cs
+  pub closed : (s : ServerState) (bytes : List ℕ) → AreBytes bytes → (out : List ℕ) (t : ServerState) (r : Result ℕ SessionFault) (cs : List Numbered) (e : SessionEnd) → Serves p s bytes out t r cs → IsShortEnd r → end_of r ≡ e → IsWhole e → Closed s bytes out t r cs
   unfolding EndsWith
   closed s bytes are out t (Ok n) cs e (ex, is, few) word at whole = closed_by s bytes are out t (Ok n) cs [] ex (omega (arith, is, few)) (refl, is, omega (arith, is, few))
   closed s bytes are out t (Err (fault.Packet f)) cs e (left, ex, few, none) word at whole = closed_by s bytes are out t (Err (fault.Packet f)) cs left ex (omega (arith, few)) (none, word, few)
   closed s bytes are out t (Err (fault.Wire f)) cs e (left, ex, few, refused) word at whole = closed_by s bytes are out t (Err (fault.Wire f)) cs left ex (omega (arith, few)) (refused, few)
   closed s bytes are out t (Err (fault.Client f)) cs e serves word at whole = absurd serves
   closed s bytes are out t (Err fault.TooManyFrames) cs e (left, ex, all) word at whole = closed_by s bytes are out t (Err fault.TooManyFrames) cs left ex (omega (arith, all)) all
-  closed s bytes are out t (Err fault.LinkFault) cs e serves word at whole = absurd (subst IsWhole (sym (some_is link_fault e at)) whole)
+  closed s bytes are out t (Err fault.LinkFault) cs e serves word at whole = absurd (subst IsWhole (sym at) whole)
 
   -- ---- what is left tells how a session ends
 
@@ -159,4 +156,4 @@ module _ (p : ProfileView) (good : IsProfile p) where
         let left = came_bytes bytes h.calls first.left first.ended.exchanged.came are in
         let there : EndsWith first.left (length h.calls) k.answer = subst (λ (l : List ℕ). EndsWith l (length h.calls) k.answer) one.left_same (subst (λ (cs : List Numbered). EndsWith second.left (length cs) k.answer) one.all second.ends) in
         let result : h.answer ≡ k.answer = one_result first.left left (length h.calls) h.answer k.answer first.ends there in
-        record { sent = sym one.wrote; server = sym one.ends; entries = h.entries ∙ ap (kept_in (dated_at s now)) (sym one.all) ∙ sym k.entries; end_is = some_is e d (sym h.ended ∙ ap end_of result ∙ k.ended) }
+        record { sent = sym one.wrote; server = sym one.ends; entries = h.entries ∙ ap (kept_in (dated_at s now)) (sym one.all) ∙ sym k.entries; end_is = sym h.ended ∙ ap end_of result ∙ k.ended }

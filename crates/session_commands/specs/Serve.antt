@@ -1,5 +1,5 @@
 -- What `serve` answers: how the sessions end that it serves in turn from one server, or where and why its schema is refused. This project's own.
-use Rattle.std.specs.Prelude.{◌≡◌, ◌⊎◌, ℕ, zero, suc, ◌<◌, ◌≤◌, ◌^◌, List, [], ◌∷◌, ◌++◌, get_or, Option, Some, None, option_map, Result, Ok, Err}
+use Rattle.std.specs.Prelude.{◌≡◌, ◌⊎◌, ℕ, zero, suc, ◌<◌, ◌≤◌, ◌^◌, List, [], ◌∷◌, ◌++◌, get_or, Option, Some, None, Result, Ok, Err}
 use Rattle.std.specs.List.{AllByRecursion}
 use Rattle.tl_numbers.specs.Bytes.{ListsOfBytes}
 use Rattle.tl_base.specs.Contents.{Files, HoldBytes}
@@ -9,7 +9,6 @@ use Rattle.box_server.specs.Servers.{ServerState, new_server, dated_at}
 use Rattle.box_server.specs.declared.entry.Entry.{Entry}
 use Rattle.wire_profile.specs.Indexes.{ProfileView}
 use Rattle.update_sessions.specs.declared.fault.SessionFault.{SessionFault}
-use Rattle.update_sessions.specs.declared.fault.SessionFault.TheVariants as fault
 use Rattle.update_sessions.specs.Kept.{kept_in}
 use Rattle.update_sessions.specs.Served.{Serves}
 use Rattle.outside.specs.Answer.{Answer, link_fault_line}
@@ -29,11 +28,15 @@ pub data SessionEnd : Type 0 where
   peer_fault : (line : List ℕ) → SessionEnd
   link_fault : SessionEnd
 
--- a session's end by what was answered of it; memory that ran out is none
-abbrev pub end_of : Result ℕ SessionFault → Option SessionEnd
-end_of (Ok n) = Some (served n)
-end_of (Err fault.LinkFault) = Some link_fault
-end_of (Err f) = option_map (λ line. peer_fault line) (session_line f)
+-- a failed session's end by its line, which a fault of its link hasn't
+abbrev pub end_by : Option (List ℕ) → SessionEnd
+end_by (Some line) = peer_fault line
+end_by None = link_fault
+
+-- a session's end by what was answered of it
+abbrev pub end_of : Result ℕ SessionFault → SessionEnd
+end_of (Ok n) = served n
+end_of (Err f) = end_by (session_line f)
 
 -- a length that no packet has is one of four bytes
 abbrev pub IsShortEnd : Result ℕ SessionFault → Type 0
@@ -47,7 +50,7 @@ pub record Session (p : ProfileView) (s : ServerState) (now : ℕ) (bytes out : 
   pub serves : Serves p (dated_at s now) bytes out t answer calls
   pub entries : more ≡ kept_in (dated_at s now) calls
   pub word : IsShortEnd answer
-  pub ended : end_of answer ≡ Some e
+  pub ended : end_of answer ≡ e
 
 -- the session's link did not fail
 abbrev pub IsWhole : SessionEnd → Type 0

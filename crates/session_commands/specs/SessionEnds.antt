@@ -3,6 +3,7 @@ use Rattle.std.specs.Prelude.{◌≡◌, ℕ, List, Option, Some, None, codes}
 use Rattle.update_sessions.specs.declared.fault.SessionFault.{SessionFault}
 use Rattle.update_sessions.specs.declared.fault.SessionFault.TheVariants as session
 use Rattle.outside.specs.Answer.{unplaced_line}
+use Rattle.outside.specs.Loading.{PeerAs}
 use Rattle.outside.specs.declared.stop.Stop.{Stop}
 use Rattle.outside.specs.declared.stop.Stop.TheVariants as stop
 use Rattle.fault_lines.specs.Answers.{answer_line}
@@ -29,19 +30,10 @@ IsShort (session.Client fault) = Unit {0}
 IsShort session.TooManyFrames = Unit {0}
 IsShort session.LinkFault = Unit {0}
 
--- the other end's fault with this line, or out of memory
-abbrev pub PeerWith : Option (List ℕ) → Stop → Type 0
-PeerWith line (stop.Peer told) = line ≡ Some told.items
-PeerWith line (stop.Refused told) = ⊥
-PeerWith line stop.ReadFault = ⊥
-PeerWith line stop.WriteFault = ⊥
-PeerWith line stop.LinkFault = ⊥
-PeerWith line stop.Memory = Unit {0}
-
 -- the stop of a session that fails
 abbrev pub TellsSession : SessionFault → Stop → Type 0
-TellsSession (session.Packet fault) s = PeerWith (Some (packet_line fault)) s
-TellsSession (session.Wire fault) s = PeerWith (Some (wire_line (codes "peer") fault)) s
-TellsSession (session.Client fault) s = PeerWith (Some (answer_line fault)) s
-TellsSession session.TooManyFrames s = PeerWith (Some many_frames_line) s
+TellsSession (session.Packet fault) s = PeerAs (packet_line fault) s
+TellsSession (session.Wire fault) s = PeerAs (wire_line (codes "peer") fault) s
+TellsSession (session.Client fault) s = PeerAs (answer_line fault) s
+TellsSession session.TooManyFrames s = PeerAs many_frames_line s
 TellsSession session.LinkFault s = s ≡ stop.LinkFault

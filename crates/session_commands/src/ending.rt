@@ -1,6 +1,6 @@
 //! How a session that fails ends a run.
 ghost use Rattle.session_commands.specs.Post.{IsWordLong};
-ghost use Rattle.session_commands.specs.SessionEnds.{IsShort, PeerWith, TellsSession, many_frames_line};
+ghost use Rattle.session_commands.specs.SessionEnds.{IsShort, TellsSession, many_frames_line};
 ghost use Rattle.fault_lines.specs.Packets.{packet_line};
 ghost use Rattle.outside.specs.Loading.{PeerAs};
 
@@ -26,7 +26,7 @@ pub fn session_stop(alloc: Global, fault: SessionFault) -> Stop
 
 // The stop of a session whose next bytes are no packet.
 fn packet_failed(alloc: Global, cause: PacketCause) -> Stop
-    ensures stop { PeerWith (Some (packet_line cause)) result }
+    ensures stop { PeerAs (packet_line cause) result }
     ensures word { IsWordLong cause }
 {
     match cause {

@@ -51,10 +51,10 @@ by_peer o line q r status is h = subst (λ (x : Option (List ℕ)). DidIn to_lin
 
 module _ (q r : HostState) (status : Status) where
   pub peer_told : (fault : SessionFault) (line : Vec ℕ Global) (told : List ℕ) → TellsSession fault (stop.Peer line) → told ≡ line.items → Did (Tells told PeerFault) q r (Some status) → DidIn to_link (ends_by (session_line fault)) q r (Some status)
-  peer_told (session.Packet f) line told is same h = by_peer (session_line (session.Packet f)) told q r status (is ∙ ap Some (sym same)) h
-  peer_told (session.Wire f) line told is same h = by_peer (session_line (session.Wire f)) told q r status (is ∙ ap Some (sym same)) h
-  peer_told (session.Client f) line told is same h = by_peer (session_line (session.Client f)) told q r status (is ∙ ap Some (sym same)) h
-  peer_told session.TooManyFrames line told is same h = by_peer (session_line session.TooManyFrames) told q r status (is ∙ ap Some (sym same)) h
+  peer_told (session.Packet f) line told is same h = by_peer (session_line (session.Packet f)) told q r status (ap Some (sym is ∙ sym same)) h
+  peer_told (session.Wire f) line told is same h = by_peer (session_line (session.Wire f)) told q r status (ap Some (sym is ∙ sym same)) h
+  peer_told (session.Client f) line told is same h = by_peer (session_line (session.Client f)) told q r status (ap Some (sym is ∙ sym same)) h
+  peer_told session.TooManyFrames line told is same h = by_peer (session_line session.TooManyFrames) told q r status (ap Some (sym is ∙ sym same)) h
   peer_told session.LinkFault line told is same h = absurd (let no : stop.Peer line ≡ stop.LinkFault = is in cc)
 
   -- the link failed

@@ -18,7 +18,7 @@ use Rattle.outside.specs.Reliable.{IsReliable}
 use Rattle.outside.proofs.Fitting.{fits_keeps, reliable_on}
 use Rattle.update_sessions.specs.declared.fault.SessionFault.{SessionFault}
 use Rattle.session_commands.specs.Lines.{served_line}
-use Rattle.session_commands.specs.Serve.{served, IsAny, Sessions, Total, end_errors, end_output}
+use Rattle.session_commands.specs.Serve.{served, IsAny, Sessions, Total, end_errors, end_output, end_of}
 use Rattle.session_commands.specs.inner.Serving.{GoesOn}
 use Rattle.session_rooms.proofs.LeftViews.{leaves_then}
 use Rattle.serve_rooms.specs.Acts.{Act, hosted, events_in, IsKeeperFault}
@@ -178,7 +178,7 @@ module _ (p : ProfileView) (s : ServerState) (n : ℕ) (R : Type 0) (v : View) w
       splits_so : t ≡ (first ++ acts) ++ rest
       splits_so = splits ∙ ap (λ (l : List Act). first ++ l) parts ∙ sym (append_assoc first acts rest)
 
-      one : Untold p s n R v k x tally c.ends (first ++ acts) j
+      one : Untold p s n R v k x tally (end_of end) (first ++ acts) j
       one = one_over p s n R v k less server x tally end (first ++ acts) first acts m j refl so c fits
 
       adds_nothing : added_in rest ≡ []
@@ -187,29 +187,29 @@ module _ (p : ProfileView) (s : ServerState) (n : ℕ) (R : Type 0) (v : View) w
       errors_lift_rest : ErrorsFailed (events_in rest) → ErrorsFailed (events_in t)
       errors_lift_rest h = subst (λ (l : List Act). ErrorsFailed (events_in l)) (sym splits_so) (errors_last (first ++ acts) rest h)
 
-      next_all : (later : Tally) → w ≡ [] → q ≡ more x later → Says k c.ends tally later (ErrorsFailed (events_in rest)) j b → LoopCame t u r b
+      next_all : (later : Tally) → w ≡ [] → q ≡ more x later → Says k (end_of end) tally later (ErrorsFailed (events_in rest)) j b → LoopCame t u r b
       next_all later last is says = elim how as (λ z. LoopCame t u r b) [
-        | inl follows ↦ begun follows (so_given (suc k) x later t b (omega (arith, less)) (one_told p s n R v k x tally later c.ends t (first ++ acts) rest j b splits_so adds_nothing one says tells))
+        | inl follows ↦ begun follows (so_given (suc k) x later t b (omega (arith, less)) (one_told p s n R v k x tally later (end_of end) t (first ++ acts) rest j b splits_so adds_nothing one says tells))
         | inr (none, empty, ends) ↦ absurd (let no : ◌≡◌ {A = Turn Serving KeptStatus} (leave r) (again (record { number = k + 1; server = x; tally = later })) = ends ∙ ap (turn_of k) is in cc)
       ]
 
-      next_part : 0 < length w → AddsPrefix (output_of j) (output_of b) (end_output k c.ends) → SomeOf tally.whole (errors_of j) (errors_of b) (end_errors c.ends) → LoopCame t u r b
+      next_part : 0 < length w → AddsPrefix (output_of j) (output_of b) (end_output k (end_of end)) → SomeOf tally.whole (errors_of j) (errors_of b) (end_errors (end_of end)) → LoopCame t u r b
       next_part some output errors = goes_begun some (record {
         number = suc k;
         few = omega (arith, less);
         total = one.total;
         sessions = one.sessions;
-        output = subst (AddsPrefix v.written.output (output_of b)) (sym one.output_is) (prefix_after v.written.output (output_of j) (output_of b) one.before.output (end_output k c.ends) one.output output);
-        errors = subst (AddsPrefix v.written.errors (errors_of b)) (sym one.errors_is) (errors_on tally.whole v.written.errors (errors_of j) (errors_of b) one.before.errors (end_errors c.ends) one.lines errors);
+        output = subst (AddsPrefix v.written.output (output_of b)) (sym one.output_is) (prefix_after v.written.output (output_of j) (output_of b) one.before.output (end_output k (end_of end)) one.output output);
+        errors = subst (AddsPrefix v.written.errors (errors_of b)) (sym one.errors_is) (errors_on tally.whole v.written.errors (errors_of j) (errors_of b) one.before.errors (end_errors (end_of end)) one.lines errors);
       })
 
-      next_unwritten : (i : ℕ) → c.ends ≡ served i → Unwritten k i ((w ≡ []) × (q ≡ no_more (Run statuses.WriteFault))) (0 < length w) (WriteFailed (events_in rest)) (ErrorsFailed (events_in rest)) j b → LoopCame t u r b
+      next_unwritten : (i : ℕ) → (end_of end) ≡ served i → Unwritten k i ((w ≡ []) × (q ≡ no_more (Run statuses.WriteFault))) (0 < length w) (WriteFailed (events_in rest)) (ErrorsFailed (events_in rest)) j b → LoopCame t u r b
       next_unwritten i is h =
           let line = served_line k i in
           let y = h.stopped in
-          let ends : end_output k c.ends ≡ line = ap (end_output k) is in
-          let output : AddsPrefix v.written.output (output_of y) (one.before.output ++ end_output k c.ends) =
-          prefix_after v.written.output (output_of j) (output_of y) one.before.output (end_output k c.ends) one.output (subst (AddsPrefix (output_of j) (output_of y)) (sym ends) h.output) in
+          let ends : end_output k (end_of end) ≡ line = ap (end_output k) is in
+          let output : AddsPrefix v.written.output (output_of y) (one.before.output ++ end_output k (end_of end)) =
+          prefix_after v.written.output (output_of j) (output_of y) one.before.output (end_output k (end_of end)) one.output (subst (AddsPrefix (output_of j) (output_of y)) (sym ends) h.output) in
           unwritten y
           (record {
             number = suc k;
@@ -219,16 +219,16 @@ module _ (p : ProfileView) (s : ServerState) (n : ℕ) (R : Type 0) (v : View) w
             whole = whole_later p s n R v (suc k) one.total t (first ++ acts) rest splits_so one.whole;
             entries = ap added_in splits_so ∙ added_more (first ++ acts) rest ∙ ap (λ (l : List Entry). added_in (first ++ acts) ++ l) adds_nothing ∙ append-nil (added_in (first ++ acts)) ∙ one.entries;
             output = subst (AddsPrefix v.written.output (output_of y)) (sym one.output_is) output;
-            errors = subst (AddsPrefix v.written.errors (errors_of y)) (sym one.errors_is) (errors_on tally.whole v.written.errors (errors_of j) (errors_of y) one.before.errors (end_errors c.ends) one.lines (some_none tally.whole (errors_of j) (errors_of y) (end_errors c.ends) h.on.errors));
+            errors = subst (AddsPrefix v.written.errors (errors_of y)) (sym one.errors_is) (errors_on tally.whole v.written.errors (errors_of j) (errors_of y) one.before.errors (end_errors (end_of end)) one.lines (some_none tally.whole (errors_of j) (errors_of y) (end_errors (end_of end)) h.on.errors));
             leaves = leaves_then (so_far (suc k) one.total) v j.view y.view one.leaves h.on.rest;
           })
           (subst (λ (l : List Act). WriteFailed (events_in l)) (sym splits_so) (write_last (first ++ acts) rest h.failed))
-          (λ sound. omega (arith, h.full (one.sound sound), one.room, ap length one.output, length-append v.written.output one.before.output, ap length one.output_is, length-append one.before.output (end_output k c.ends), ap length ends))
+          (λ sound. omega (arith, h.full (one.sound sound), one.room, ap length one.output, length-append v.written.output one.before.output, ap length one.output_is, length-append one.before.output (end_output k (end_of end)), ap length ends))
           (line_as (ErrorsFailed (events_in rest)) (ErrorsFailed (events_in t)) errors_lift_rest write_fault_line (Run statuses.WriteFault) u r y b
           (line_follows k (ErrorsFailed (events_in rest)) write_fault_line (Run statuses.WriteFault) w q u r y b how (record { on = h.after; line_is = h.line_is })))
 
       heard_came : LoopCame t u r b
-      heard_came = elim (next_told k tally x end c.ends c.is rest w q j b tells goes) as (λ z. LoopCame t u r b) [
+      heard_came = elim (next_told k tally x end rest w q j b tells goes) as (λ z. LoopCame t u r b) [
         | told_all later last is says ↦ next_all later last is says
         | told_some some output errors ↦ next_part some output errors
         | unwritten_by i is h ↦ next_unwritten i is h
@@ -271,11 +271,11 @@ module _ (p : ProfileView) (s : ServerState) (n : ℕ) (R : Type 0) (v : View) w
       all_splits = ap (λ (l : List Act). before ++ l) splits ∙ sym (append_assoc before first rest)
 
       told_on : (acts later_acts : List Act) (d : ServerState) (end : Result ℕ SessionFault) (later : Tally) (j : Outside) → rest ≡ acts ++ later_acts → (c : Connected p x.server acts d end m j) → Fits (events_in acts) m j → Fits (events_in later_acts) j b
-          → added_in later_acts ≡ [] → Says x.number c.ends x.tally later (ErrorsFailed (events_in later_acts)) j b → Reached (with_one x d later) t b
+          → added_in later_acts ≡ [] → Says x.number (end_of end) x.tally later (ErrorsFailed (events_in later_acts)) j b → Reached (with_one x d later) t b
       told_on acts later_acts d end later j parts c f g none says =
           let one = one_over p s n R v x.number less x.server d x.tally end ((before ++ first) ++ acts) (before ++ first) acts m j refl so.so c f in
           let all : before ++ t ≡ ((before ++ first) ++ acts) ++ later_acts = all_splits ∙ ap (λ (l : List Act). (before ++ first) ++ l) parts ∙ sym (append_assoc (before ++ first) acts later_acts) in
-          let after = one_told p s n R v x.number d x.tally later c.ends (before ++ t) ((before ++ first) ++ acts) later_acts j b all none one says g in
+          let after = one_told p s n R v x.number d x.tally later (end_of end) (before ++ t) ((before ++ first) ++ acts) later_acts j b all none one says g in
           let number : suc x.number ≡ x.number + 1 = omega arith in
           record { so = subst (λ (i : ℕ). SoFar p s n R v i d later (before ++ t) b) number after; few = omega (arith, less) }
 
@@ -290,7 +290,7 @@ module _ (p : ProfileView) (s : ServerState) (n : ℕ) (R : Type 0) (v : View) w
         | inr (follows, prefix) ↦ absurd (omega (arith, follows))
       ]
       next_on q is (heard acts rest_acts d end j parts c fits tells goes) =
-          elim (next_told x.number x.tally d end c.ends c.is rest_acts [] q j b tells goes) as (λ z. Reached y t b) [
+          elim (next_told x.number x.tally d end rest_acts [] q j b tells goes) as (λ z. Reached y t b) [
             | told_all later none ends says ↦
                 (let same : with_one x d later ≡ y = again_is (with_one x d later) y (is ∙ ap (turn_of x.number) ends) in
                 subst (λ (z : Serving). Reached z t b) same (told_on acts rest_acts d end later j parts c fits tells (end_adds x.number x.tally d end rest_acts [] q goes) says))

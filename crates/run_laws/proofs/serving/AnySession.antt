@@ -11,7 +11,7 @@ use Rattle.outside.specs.Events.{Outside}
 use Rattle.outside.specs.Reliable.{IsReliable}
 use Rattle.update_sessions.specs.declared.fault.SessionFault.{SessionFault}
 use Rattle.session_commands.specs.Linked.{next_link}
-use Rattle.session_commands.specs.Serve.{end_errors, end_output}
+use Rattle.session_commands.specs.Serve.{end_errors, end_output, end_of}
 use Rattle.session_commands.specs.Serve as commands
 use Rattle.session_commands.specs.inner.Serving.{GoesOn}
 use Rattle.session_rooms.proofs.LeftViews.{leaves_then}
@@ -67,20 +67,20 @@ module _ (p : ProfileView) (number : ℕ) (s t : ServerState) (tally later : Tal
     entries : added_in acts ≡ added_in first
     entries = ap added_in parts ∙ added_more first rest ∙ ap (λ (l : List Entry). added_in first ++ l) none ∙ append-nil (added_in first)
 
-    said : (now : Tally) → more t later ≡ more d now → Says number c.ends tally now (ErrorsFailed (events_in rest)) j y → Served
+    said : (now : Tally) → more t later ≡ more d now → Says number (end_of end) tally now (ErrorsFailed (events_in rest)) j y → Served
     said now is told =
         let server : d ≡ t = sym (more_server t d later now is) in
-        let says : Says number c.ends tally later (ErrorsFailed (events_in rest)) j y = subst (λ (z : Tally). Says number c.ends tally z (ErrorsFailed (events_in rest)) j y) (sym (more_tally t d later now is)) told in
+        let says : Says number (end_of end) tally later (ErrorsFailed (events_in rest)) j y = subst (λ (z : Tally). Says number (end_of end) tally z (ErrorsFailed (events_in rest)) j y) (sym (more_tally t d later now is)) told in
         record {
           sent = c.sent;
-          ends = c.ends;
-          session = subst (λ (z : ServerState). commands.Session p s (get_or x.view.moments 0 0) (next_link x.view) c.sent z (added_in acts) c.ends) server
-              (subst (λ (l : List Entry). commands.Session p s (get_or x.view.moments 0 0) (next_link x.view) c.sent d l c.ends) (sym entries) c.session);
+          ends = end_of end;
+          session = subst (λ (z : ServerState). commands.Session p s (get_or x.view.moments 0 0) (next_link x.view) c.sent z (added_in acts) (end_of end)) server
+              (subst (λ (l : List Entry). commands.Session p s (get_or x.view.moments 0 0) (next_link x.view) c.sent d l (end_of end)) (sym entries) c.session);
           status = says.status;
-          output = says.output ∙ ap (λ (l : List ℕ). l ++ end_output number c.ends) c.silent.output;
-          whole = whole_before tally.whole later.whole (errors_of j) (errors_of y) (end_errors c.ends) says.lines;
-          errors = λ stands. whole_lines tally.whole later.whole (errors_of j) (errors_of y) (end_errors c.ends) says.lines stands ∙ ap (λ (l : List ℕ). l ++ end_errors c.ends) c.silent.errors;
-          leaves = leaves_then (session_answer number c.ends c.sent) x.view j.view y.view (c.leaves number) says.rest;
+          output = says.output ∙ ap (λ (l : List ℕ). l ++ end_output number (end_of end)) c.silent.output;
+          whole = whole_before tally.whole later.whole (errors_of j) (errors_of y) (end_errors (end_of end)) says.lines;
+          errors = λ stands. whole_lines tally.whole later.whole (errors_of j) (errors_of y) (end_errors (end_of end)) says.lines stands ∙ ap (λ (l : List ℕ). l ++ end_errors (end_of end)) c.silent.errors;
+          leaves = leaves_then (session_answer number (end_of end) c.sent) x.view j.view y.view (c.leaves number) says.rest;
         }
 
   by_next : NextCame p number s tally acts [] (more t later) x y → Served
@@ -88,7 +88,7 @@ module _ (p : ProfileView) (number : ℕ) (s t : ServerState) (tally later : Tal
   by_next (nobody k view none failed empty line) = others_end link_fault_line (Run statuses.LinkFault) k line
   by_next (broken_off first rest j parts lost none line) = others_end keep_fault_line KeepFault j line
   by_next (heard first rest d end j parts c fits tells goes) =
-      elim (next_told number tally d end c.ends c.is rest [] (more t later) j y tells goes) as (λ z. Served) [
+      elim (next_told number tally d end rest [] (more t later) j y tells goes) as (λ z. Served) [
         | told_all now none is says ↦ said first rest d end j parts c (end_adds number tally d end rest [] (more t later) goes) now is says
         | told_some some output errors ↦ absurd (omega (arith, some))
         | unwritten_by i is h ↦ elim h.line_is as (λ z. Served) [

@@ -60,14 +60,12 @@ pub record Failed (p : ProfileView) (s : ServerState) (acts : List Act) (a : Out
 -- a session at the next moment over what the next link gives; nothing is told of it yet
 pub record Connected (p : ProfileView) (s : ServerState) (acts : List Act) (x : ServerState) (end : Result ℕ SessionFault) (a j : Outside) : Type 0 where
   pub sent : List ℕ
-  pub ends : SessionEnd
-  pub is : end_of end ≡ Some ends
-  pub session : commands.Session p s (get_or a.view.moments 0 0) (next_link a.view) sent x (added_in acts) ends
-  pub whole : IsWhole ends ⊎ Failed p s acts a
+  pub session : commands.Session p s (get_or a.view.moments 0 0) (next_link a.view) sent x (added_in acts) (end_of end)
+  pub whole : IsWhole (end_of end) ⊎ Failed p s acts a
   pub silent : Silent a j
-  pub leaves : (number : ℕ) → Leaves (session_answer number ends sent) a.view j.view
+  pub leaves : (number : ℕ) → Leaves (session_answer number (end_of end) sent) a.view j.view
 
-whole_or : (F : Type 0) (end : Result ℕ SessionFault) (e : SessionEnd) → end_of end ≡ Some e → (end ≡ Err session.LinkFault → F) → IsWhole e ⊎ F
+whole_or : (F : Type 0) (end : Result ℕ SessionFault) (e : SessionEnd) → end_of end ≡ e → (end ≡ Err session.LinkFault → F) → IsWhole e ⊎ F
 whole_or F end (served n) is fails = inl tt
 whole_or F end (peer_fault line) is fails = inl tt
 whole_or F end link_fault is fails = inr (fails (failed_end end is))
@@ -169,17 +167,15 @@ module _ (p : ProfileView) (number : ℕ) (s : ServerState) (tally : Tally) (t u
 
       connected : (x : ServerState) (end : Result ℕ SessionFault) → AnswersAll p (dated_at s now) answered (over x end) → Connected p s (first ++ answered) x end a j
       connected x end h =
-          let known = session_known p (dated_at s now) answered (over x end) k j h f in
+          let word = session_known p (dated_at s now) answered (over x end) k j h f in
           let so = sessions_answer p (dated_at s now) answered (over x end) k j h f in
           let over_link : Throughout IsOverLink (events_in answered) = session_keeps IsOverLink (λ _. refl) tt (λ _. tt) tt tt p (dated_at s now) answered (over x end) h in
           let spares : unlinked j.view ≡ unlinked k.view = link_spares k j (events_in answered) over_link f in
-          let this : commands.Session p s now (left_of Link k.view) so.sent x (added_in answered) known.ends = record { answer = end; calls = so.calls; serves = so.ends; entries = so.entries; word = known.word; ended = known.is } in
+          let this : commands.Session p s now (left_of Link k.view) so.sent x (added_in answered) (end_of end) = record { answer = end; calls = so.calls; serves = so.ends; entries = so.entries; word = word; ended = refl } in
           record {
             sent = so.sent;
-            ends = known.ends;
-            is = known.is;
-            session = subst (λ (l : List Entry). commands.Session p s (get_or a.view.moments 0 0) (next_link a.view) so.sent x l known.ends) new_entries (session_as so.sent x (added_in answered) known.ends this);
-            whole = whole_or (Failed p s (first ++ answered) a) end known.ends known.is (failed_at x end h);
+            session = subst (λ (l : List Entry). commands.Session p s (get_or a.view.moments 0 0) (next_link a.view) so.sent x l (end_of end)) new_entries (session_as so.sent x (added_in answered) (end_of end) this);
+            whole = whole_or (Failed p s (first ++ answered) a) end (end_of end) refl (failed_at x end h);
             silent = quiet (over x end) h;
             leaves = λ number. record {
               files = ap (λ (v : View). v.files) spares ∙ ap (λ (v : View). v.files) view;

@@ -18,7 +18,7 @@ use Rattle.outside.proofs.Fitting.{fits_keeps, reliable_on}
 use Rattle.update_sessions.specs.declared.fault.SessionFault.{SessionFault}
 use Rattle.session_commands.specs.Keep.{SessionsBy}
 use Rattle.session_commands.specs.Linked.{next_link}
-use Rattle.session_commands.specs.Serve.{SessionEnd, IsAny, IsWhole, Sessions, Total, end_errors, end_output, end_status, first_fault, no_sessions, total_answer, with_session}
+use Rattle.session_commands.specs.Serve.{SessionEnd, IsAny, IsWhole, Sessions, Total, end_errors, end_output, end_status, first_fault, no_sessions, total_answer, with_session, end_of}
 use Rattle.session_commands.specs.Serve as commands
 use Rattle.session_commands.specs.inner.Serving.{GoesOn}
 use Rattle.session_commands.proofs.ServeRuns.{at_zero}
@@ -165,7 +165,7 @@ module _ (p : ProfileView) (s : ServerState) (n : ℕ) (R : Type 0) (v : View) w
     new = added_in acts
 
     abbrev after : Total
-    after = with_session k c.ends c.sent x new so.total
+    after = with_session k (end_of end) c.sent x new so.total
 
     moment : get_or m.view.moments 0 0 ≡ get_or v.moments k 0
     moment = ap (λ (l : List ℕ). get_or l 0 0) so.leaves.moments ∙ at_zero v.moments k 0
@@ -183,8 +183,8 @@ module _ (p : ProfileView) (s : ServerState) (n : ℕ) (R : Type 0) (v : View) w
         subst (λ (z : ServerState). commands.Session p z (get_or m.view.moments 0 0) (next_link m.view) out y es e) (sym so.server_is)
         (subst (λ (i : ℕ). commands.Session p so.total.server i (next_link m.view) out y es e) (sym moment) (subst (λ (l : List ℕ). commands.Session p so.total.server (get_or v.moments k 0) l out y es e) (sym link) h))
 
-    there : commands.Session p so.total.server (get_or v.moments k 0) (get_or v.links k []) c.sent x new c.ends
-    there = session_as c.sent x new c.ends c.session
+    there : commands.Session p so.total.server (get_or v.moments k 0) (get_or v.links k []) c.sent x new (end_of end)
+    there = session_as c.sent x new (end_of end) c.session
 
     broke : Sessions IsWhole p s v.links v.moments k so.total → Failed p u acts m → Broke t
     broke whole failed = record {
@@ -201,27 +201,27 @@ module _ (p : ProfileView) (s : ServerState) (n : ℕ) (R : Type 0) (v : View) w
     whole_on : WholeOr (suc k) after t
     whole_on = elim so.whole as (λ z. WholeOr (suc k) after t) [
       | inl whole ↦ elim c.whole as (λ z. WholeOr (suc k) after t) [
-        | inl ends ↦ inl (so.total, c.ends, c.sent, x, new, whole, ends, there, refl)
+        | inl ends ↦ inl (so.total, (end_of end), c.sent, x, new, whole, ends, there, refl)
         | inr failed ↦ inr (broke whole failed)
       ]
       | inr earlier ↦ inr (broke_later t first acts splits earlier)
     ]
 
-    pub one_over : Untold k x tally c.ends t j
+    pub one_over : Untold k x tally (end_of end) t j
     one_over = record {
       before = so.total;
       total = after;
-      sessions = (so.total, c.ends, c.sent, x, new, so.sessions, tt, there, refl);
+      sessions = (so.total, (end_of end), c.sent, x, new, so.sessions, tt, there, refl);
       whole = whole_on;
       server_is = refl;
       entries = ap added_in splits ∙ added_more first acts ∙ ap (λ (l : List Entry). l ++ new) so.entries;
-      status = ap (λ (z : Status). first_fault z (end_status c.ends)) (sym so.status);
+      status = ap (λ (z : Status). first_fault z (end_status (end_of end))) (sym so.status);
       output_is = refl;
       errors_is = refl;
       output = c.silent.output ∙ so.output;
       lines = subst (λ (l : List ℕ). GoesOn true tally.whole v.written.errors l so.total.errors) (sym c.silent.errors) so.lines;
       torn = λ is. subst (λ (l : List Act). ErrorsFailed (events_in l)) (sym splits) (errors_first first acts (so.torn is));
-      leaves = more_leaves k k c.ends c.sent x new so.total v m.view j.view so.leaves (c.leaves k);
+      leaves = more_leaves k k (end_of end) c.sent x new so.total v m.view j.view so.leaves (c.leaves k);
       room = (fits_keeps (events_in acts) m j f).room ∙ so.room;
       sound = λ sound. reliable_on m j (fits_keeps (events_in acts) m j f) (so.sound sound);
     }

@@ -1,6 +1,5 @@
 -- What is told of a session that ended, or a beginning of that.
 use Rattle.std.proofs.Common.{◌≡◌, inl, inr, ℕ, ◌+◌, ◌<◌, List, [], ◌∷◌, ◌++◌, length, append-nil, Bool, true, false, true≢false, Option, Some, None, Result, Ok, Err, refl, sym, ap, ◌∙◌, subst, arith}
-use Rattle.std.specs.Prelude.{option_map}
 use Rattle.tl_base.specs.declared.host.Out.TheVariants as outs
 use Rattle.box_server.specs.Servers.{ServerState}
 use Rattle.outside.specs.Answer.{link_fault_line, write_fault_line}
@@ -19,7 +18,7 @@ use Rattle.outside.proofs.Fitting.{fits_both, writes_append, writes_fail_full}
 use Rattle.update_sessions.specs.declared.fault.SessionFault.{SessionFault}
 use Rattle.update_sessions.specs.declared.fault.SessionFault.TheVariants as session
 use Rattle.session_commands.specs.Lines.{served_line}
-use Rattle.session_commands.specs.Serve.{SessionEnd, served, peer_fault, link_fault, end_of, end_errors, end_output, end_status, first_fault}
+use Rattle.session_commands.specs.Serve.{SessionEnd, served, peer_fault, link_fault, end_by, end_of, end_errors, end_output, end_status, first_fault}
 use Rattle.session_commands.specs.SessionEnds.{session_line}
 use Rattle.session_commands.specs.inner.Serving.{GoesOn}
 use Rattle.session_rooms.proofs.LeftViews.{beside}
@@ -146,12 +145,10 @@ module _ (number : ℕ) (tally : Tally) (t u : List Event) (r : Told) (a b : Out
       let tells : TellsLine tally.whole line (t ++ u) h.between = subst (λ (l : List Event). TellsLine tally.whole line l h.between) (sym (h.splits ∙ ap (λ (l : List Event). h.first ++ l) h.goes.0 ∙ append-nil h.first)) h.does in
       fault_lines e line status h.between is says silent h.goes.1 (line_told tally.whole h.between line t u a b tells f)
 
-  same_end : (x e : SessionEnd) → Some x ≡ Some e → x ≡ e
-  same_end x e is = cc
-
-  peer_ends : (line : Option (List ℕ)) (e : SessionEnd) → option_map (λ (l : List ℕ). peer_fault l) line ≡ Some e → fault_told tally line (t ++ u) r → TellsOf e
-  peer_ends (Some line) e is h = subst TellsOf (same_end (peer_fault line) e is) (fault_ends (peer_fault line) line statuses.PeerFault refl refl refl h)
-  peer_ends None e is h = absurd (let no : ◌≡◌ {A = Option SessionEnd} None (Some e) = is in cc)
+  -- a fault, by its line
+  fault_ends_by : (line : Option (List ℕ)) → fault_told tally line (t ++ u) r → TellsOf (end_by line)
+  fault_ends_by (Some line) h = fault_ends (peer_fault line) line statuses.PeerFault refl refl refl h
+  fault_ends_by None h = fault_ends link_fault link_fault_line statuses.LinkFault refl refl refl h
 
   -- the line of a session without a fault
   module _ (n : ℕ) where
@@ -212,17 +209,16 @@ module _ (number : ℕ) (tally : Tally) (t u : List Event) (r : Told) (a b : Out
     served_ends : TellsEnd number tally (Ok n) (t ++ u) r → TellsOf (served n)
     served_ends h = served_at h (seam t u h.first h.rest h.splits)
 
-  pub tells_end : (end : Result ℕ SessionFault) (e : SessionEnd) → end_of end ≡ Some e → TellsEnd number tally end (t ++ u) r → TellsOf e
-  tells_end (Ok n) e is h = subst TellsOf (same_end (served n) e is) (served_ends n h)
-  tells_end (Err (session.Packet fault)) e is h = peer_ends (session_line (session.Packet fault)) e is h
-  tells_end (Err (session.Wire fault)) e is h = peer_ends (session_line (session.Wire fault)) e is h
-  tells_end (Err (session.Client fault)) e is h = peer_ends (session_line (session.Client fault)) e is h
-  tells_end (Err session.TooManyFrames) e is h = peer_ends (session_line session.TooManyFrames) e is h
-  tells_end (Err session.LinkFault) e is h = subst TellsOf (same_end link_fault e is) (fault_ends link_fault link_fault_line statuses.LinkFault refl refl refl h)
+  pub tells_end : (end : Result ℕ SessionFault) → TellsEnd number tally end (t ++ u) r → TellsOf (end_of end)
+  tells_end (Ok n) h = served_ends n h
+  tells_end (Err fault) h = fault_ends_by (session_line fault) h
 
 -- ---- likewise of acts, after which the next session may come
 
-module _ (number : ℕ) (tally : Tally) (x : ServerState) (end : Result ℕ SessionFault) (e : SessionEnd) (known : end_of end ≡ Some e) (t u : List Act) (r : Next) (a b : Outside) (f : Fits (events_in t) a b) where
+module _ (number : ℕ) (tally : Tally) (x : ServerState) (end : Result ℕ SessionFault) (t u : List Act) (r : Next) (a b : Outside) (f : Fits (events_in t) a b) where
+  abbrev e : SessionEnd
+  e = end_of end
+
   abbrev pub TellsNext : Type 0
   TellsNext = EndTold (λ later. more x later) (λ status. no_more (Run status)) number e tally (WriteFailed (events_in t)) (ErrorsFailed (events_in t)) (u ≡ []) (0 < length u) r a b
 
@@ -232,7 +228,7 @@ module _ (number : ℕ) (tally : Tally) (x : ServerState) (end : Result ℕ Sess
 
   told_begun : (q : Told) (m : List Act) → 0 < length u → Hosted (TellsEnd number tally end) (t ++ m) q → TellsNext
   told_begun q m some h =
-      elim (tells_end number tally (events_in t) (events_in m) q a b f end e known (hosted_both (TellsEnd number tally end) t m q h)) as (λ z. TellsNext) [
+      elim (tells_end number tally (events_in t) (events_in m) q a b f end (hosted_both (TellsEnd number tally end) t m q h)) as (λ z. TellsNext) [
         | told_all later none is says ↦ told_some some (all_added (output_of a) (output_of b) (end_output number e) says.output) (lines_some tally.whole later.whole (errors_of a) (errors_of b) (end_errors e) says.lines)
         | told_some follows output errors ↦ told_some some output errors
         | unwritten_by n is w ↦ unwritten_by n is (record {
@@ -251,7 +247,7 @@ module _ (number : ℕ) (tally : Tally) (x : ServerState) (end : Result ℕ Sess
       let same : events ≡ events_in t = sym (hosted_events t events at) in
       let tells : TellsEnd number tally end (events_in t ++ []) q = subst (λ (l : List Event). TellsEnd number tally end l q) (same ∙ sym (append-nil (events_in t))) h in
       let ends = next_is q v goes in
-      elim (tells_end number tally (events_in t) [] q a b f end e known tells) as (λ z. TellsNext) [
+      elim (tells_end number tally (events_in t) [] q a b f end tells) as (λ z. TellsNext) [
         | told_all later last is says ↦ told_all later none (ends.1 later is) says
         | told_some follows output errors ↦ absurd (omega (arith, follows))
         | unwritten_by n is w ↦ unwritten_by n is (record {
