@@ -1,7 +1,7 @@
 //! What rows speak of, and which call a row's first word is.
 use crate::codec::call_by;
 use crate::layers::lift_call;
-use crate::pieces::{feed_call, next_call};
+use crate::pieces::{feed_call, next_call, whole_call};
 use crate::row::Row;
 use crate::schemas::{made, print_call, schema_of};
 use crate::sinks::sink_call;
@@ -53,6 +53,7 @@ impl Objects {
             "new" => made(&mut self.new, row),
             "print" => print_call(row),
             "next" => next_call(&self.new, &mut self.source, &mut self.at, row),
+            "whole" => whole_call(&self.new, &mut self.source, row),
             "feed" => feed_call(&self.new, row),
             "lift" => lift_call(&self.old, &self.new, row),
             call => call_by(call, &self.old, &self.new, &mut self.sink, row),

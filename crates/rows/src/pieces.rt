@@ -2,7 +2,7 @@
 use crate::row::Row;
 use crate::schemas::plan_of;
 use tl_base::MemSource;
-use tl_decode::{Decoder, Fed, decode_or_end, takes_four};
+use tl_decode::{Decoder, Fed, decode_or_end, decode_whole, takes_four};
 use tl_plan::Plan;
 use tl_schema::Schema;
 
@@ -25,6 +25,22 @@ fn tell_next(plan: &Plan, from: &mut MemSource, at: &mut u64, row: &mut Row) {
 pub fn next_call(schema: &Schema, from: &mut MemSource, at: &mut u64, row: &mut Row) {
     match plan_of(row.alloc(), schema, row.word()) {
         Some(plan) => tell_next(&plan, from, at, row),
+        None => row.put("no plan"),
+    }
+}
+
+// The value that is all that the source has left, or the fault.
+fn tell_whole(plan: &Plan, from: &mut MemSource, row: &mut Row) {
+    if plan.roots() == 0 {
+        return row.put("no root");
+    }
+    row.show_came(decode_whole(row.alloc(), plan, 0, from))
+}
+
+/// `whole TYPE`: the value that is all that the source has left.
+pub fn whole_call(schema: &Schema, from: &mut MemSource, row: &mut Row) {
+    match plan_of(row.alloc(), schema, row.word()) {
+        Some(plan) => tell_whole(&plan, from, row),
         None => row.put("no plan"),
     }
 }
