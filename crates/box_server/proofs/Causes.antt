@@ -1,5 +1,5 @@
 -- The causes that posts have by themselves.
-use Rattle.std.proofs.Common.{◌≡◌, ℕ, suc, ◌+◌, ◌-◌, ◌^◌, ◌<◌, ◌≤◌, min, List, [], ◌∷◌, Bool, true, false, eqb, ltb, Option, Some, None, Result, Ok, Err, if◌then◌else◌, length, drop, refl, sym, ap, ◌∙◌, subst, arith}
+use Rattle.std.proofs.Common.{◌≡◌, ℕ, suc, ◌+◌, ◌-◌, ◌^◌, ◌<◌, ◌≤◌, min, List, [], ◌∷◌, Bool, true, false, eqb, ltb, Option, Some, None, if◌then◌else◌, length, drop, refl, sym, ap, ◌∙◌, arith}
 use Rattle.std.specs.List.{list_any, sum_by}
 use Rattle.std.proofs.lemmas.Bool.Decides.{nat_tests}
 use Rattle.std.proofs.lemmas.List.Sums.{sum_by-cons}
@@ -9,7 +9,7 @@ use Rattle.box_server.specs.declared.fault.PostFault.{PostFault}
 use Rattle.box_server.specs.declared.fault.PostFault.TheVariants.{NoPosts, TooManyPosts, NoIds, TooManyIds, BodyTooLong, KeyTooLong, ValueTooLong, PostTooLarge}
 use Rattle.box_server.specs.Entries.{Entry, entry_of, entries_of, size_of}
 use Rattle.box_server.specs.Refusing.{first_cause, bad_entries}
-use Rattle.box_server.specs.inner.Checks.{Checks, is_bad}
+use Rattle.box_server.specs.inner.Checks.{is_bad}
 
 pub entries_length : (posts : List Post) → length (entries_of posts) ≡ length posts
 entries_length [] = refl

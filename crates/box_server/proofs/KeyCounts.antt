@@ -1,11 +1,11 @@
 -- How many keys there are with the settings of posts.
-use Rattle.std.proofs.Common.{◌≡◌, zero, suc, ◌<◌, drop, get_or, if◌then◌else◌, ℕ, ℤ, ◌+◌, ◌≤◌, List, [], ◌∷◌, ◌++◌, Bool, true, false, cond, ◌||◌, Option, Some, None, Vec, is_some, length, map as each, refl, sym, ap, ap₂, ◌∙◌, subst, arith, append_assoc, append-nil, inl, inr, drop-cons}
-use Rattle.std.specs.FinMap.{get, insert, len, len-insert, len-empty}
+use Rattle.std.proofs.Common.{◌≡◌, zero, suc, ◌<◌, drop, get_or, if◌then◌else◌, ℕ, ◌+◌, ◌≤◌, List, [], ◌∷◌, ◌++◌, Bool, true, false, cond, ◌||◌, Option, Some, None, is_some, length, map as each, refl, sym, ap, ◌∙◌, subst, arith, append_assoc, append-nil, inl, inr, drop-cons}
+use Rattle.std.specs.FinMap.{insert, len, len-insert, len-empty}
 use Rattle.std.specs.Cmp.Lexicographic.{nat_list_cmp_total}
 use Rattle.box_events.specs.declared.requests.Post.{Post}
 use Rattle.box_events.specs.declared.requests.Post.TheVariants.{Message, Edit, Delete, Secret, ChannelMessage, ChannelEdit, ChannelDelete, Setting as SettingPost, Read, ChannelRead}
-use Rattle.box_events.specs.SettingLists.{Dated, same_key, or_else, last_of}
-use Rattle.box_server.specs.Entries.{Entry, entry_of, entries_of}
+use Rattle.box_events.specs.SettingLists.{Dated, same_key, last_of}
+use Rattle.box_server.specs.Entries.{entries_of}
 use Rattle.box_server.specs.LastEntries.{ByKey, with_entries, last_entries, keys_in}
 use Rattle.box_server.specs.Posting.{dated_with, settings_of}
 use Rattle.box_server.specs.inner.LastIndexes.{Indexes, entry_at, index_in, noted_in, IsIndexed, NotesFresh, NotesPost}

@@ -1,9 +1,7 @@
 -- Channels with room for their tails, and with these.
-use Rattle.std.proofs.Common.{◌≡◌, ◌≢◌, ◌⊎◌, ℕ, ℤ, zero, suc, ◌+◌, ◌-◌, ◌<◌, ◌≤◌, List, [], ◌∷◌, ◌++◌, length, take, drop, get_or, set, map as each, refl, sym, ap, ap₂, ◌∙◌, subst, arith, append_assoc, append-nil, inl, inr}
+use Rattle.std.proofs.Common.{◌≡◌, ◌≢◌, ℕ, zero, suc, ◌+◌, ◌-◌, ◌<◌, ◌≤◌, List, [], ◌∷◌, ◌++◌, length, take, drop, get_or, set, map as each, refl, sym, ap, ◌∙◌, arith, append-nil, inl, inr}
 use Rattle.std.proofs.lemmas.Bool.{cases_lt}
-use Rattle.std.proofs.lemmas.List.{get_or_append_left, get_or_push, get_or-set_same, get_or-set_other, get_or-drop, get_or-map, length_push, length-map, map-append, map-set, length-append, length-drop, length-set, take_more, map_more}
-use Rattle.box_events.specs.Events.{EventView}
-use Rattle.box_events.specs.Boxes.{ending}
+use Rattle.std.proofs.lemmas.List.{get_or_append_left, get_or_push, get_or-set_same, get_or-set_other, get_or-drop, get_or-map, length_push, length-map, map-append, map-set, length-append, length-drop, map_more}
 use Rattle.box_events.specs.BoxViews.{end_of}
 use Rattle.box_server.specs.declared.channel.Channel.{Channel}
 use Rattle.box_server.specs.Posting.{cut}

@@ -1,5 +1,5 @@
 -- How a store answers. This project's own.
-use Rattle.std.specs.Prelude.{◌≡◌, ℤ, List, [], true, Result, Ok, Err, IsErrOf}
+use Rattle.std.specs.Prelude.{◌≡◌, ℤ, List, [], true, Result, Ok, Err}
 use Rattle.box_events.specs.declared.requests.Post.{Post}
 use Rattle.box_server.specs.Receiving.{post_answer}
 use Rattle.box_server.specs.declared.posted.Posted.{Posted}

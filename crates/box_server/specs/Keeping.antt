@@ -1,5 +1,5 @@
 -- What a keeper of entries stands for, and what calls do to it. This project's own.
-use Rattle.std.specs.Prelude.{◌≡◌, ℕ, ◌+◌, ◌<◌, ◌≤◌, ◌^◌, List, ◌++◌, length, get_or, Bool, IsTrue, true, Option, Some, None, IsSome, IfSome}
+use Rattle.std.specs.Prelude.{◌≡◌, ℕ, ◌<◌, ◌≤◌, ◌^◌, List, ◌++◌, length, get_or, Bool, IsTrue, true, Option, Some, None, IsSome, IfSome}
 use Rattle.tl_base.specs.Causes.{Rose}
 use Rattle.box_server.specs.declared.entry.Entry.{Entry}
 

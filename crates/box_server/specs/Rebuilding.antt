@@ -5,7 +5,6 @@ use Rattle.box_events.specs.declared.positions.Receipt.{Receipt}
 use Rattle.box_events.specs.declared.requests.Post.{Post}
 use Rattle.box_server.specs.declared.fault.PostFault.{PostFault}
 use Rattle.box_server.specs.Servers.{ServerState, new_server, dated_at}
-use Rattle.box_server.specs.Posting.{posted}
 use Rattle.box_server.specs.Receiving.{after_post}
 use Rattle.box_server.specs.Refusing.{post_cause}
 use Rattle.box_server.specs.declared.entry.Entry.{Entry}

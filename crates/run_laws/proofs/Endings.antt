@@ -4,9 +4,7 @@ use Rattle.tl_base.specs.Outside.{View}
 use Rattle.outside.specs.Answer.{Answer, memory_line}
 use Rattle.outside.specs.Jobs as jobs
 use Rattle.outside.specs.Kept.{OnlyErrors}
-use Rattle.outside.specs.Sound as sound
 use Rattle.outside.specs.Sound.{IsFault}
-use Rattle.outside.specs.Telling.{Tells}
 use Rattle.outside.specs.declared.status.Status.{Status}
 use Rattle.outside.specs.declared.status.Status.TheVariants.{Usage, ReadFault, WriteFault, Memory, LinkFault}
 use Rattle.outside.specs.Events.{Event, Outside}

@@ -16,7 +16,6 @@ use Rattle.box_wire.proofs.CallLaws.{call_laws}
 use Rattle.outside.specs.Events.{Event, HostState, ended}
 use Rattle.outside.specs.Laws.{Happened, Throughout}
 use Rattle.outside.specs.Packets.{PacketView, whole, none, wrong, broken, TakesPacket, packet_view}
-use Rattle.outside.specs.Packets as packets
 use Rattle.outside.specs.declared.packets.Packet.{Packet as TakenPacket}
 use Rattle.outside.specs.declared.packets.Packet.TheVariants as packet
 use Rattle.outside.specs.Begun.{Did}

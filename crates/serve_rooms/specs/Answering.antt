@@ -2,7 +2,6 @@
 -- the next packet is taken. This project's own.
 use Rattle.std.specs.Prelude.{◌≡◌, ℕ, ◌+◌, ltb, List, [], ◌∷◌, Bool, true, false, Result, Ok, Err}
 use Rattle.tl_base.specs.declared.host.Slot.TheVariants.{Link}
-use Rattle.tl_base.specs.declared.packet.PacketCause.TheVariants.{BadLength, Ended}
 use Rattle.box_events.specs.declared.requests.Numbered.{Numbered}
 use Rattle.box_server.specs.Servers.{ServerState}
 use Rattle.box_server.specs.declared.entry.Entry.{Entry}

@@ -1,5 +1,5 @@
 -- Over bytes a server's session is one: it takes the same calls, sends the same for them, and ends so.
-use Rattle.std.proofs.Common.{◌≡◌, ℕ, ◌<◌, ◌≤◌, List, [], ◌∷◌, ◌++◌, length, Some, Result, Ok, Err, refl, sym, ap, ◌∙◌, subst, arith, inl, inr}
+use Rattle.std.proofs.Common.{◌≡◌, ℕ, ◌<◌, ◌≤◌, List, [], ◌∷◌, ◌++◌, length, Result, Ok, Err, refl, sym, ap, ◌∙◌, subst, arith, inl, inr}
 use Rattle.tl_numbers.specs.Bytes.{AreBytes}
 use Rattle.tl_base.specs.Packets.{IsPacketLength, packet}
 use Rattle.tl_base.specs.declared.packet.PacketCause.{PacketCause}
@@ -27,7 +27,7 @@ use Rattle.update_sessions.specs.Kept.{kept_in}
 use Rattle.update_sessions.specs.Served.{Serves}
 use Rattle.update_sessions.specs.Serving.{server_side}
 use Rattle.session_commands.specs.Post.{IsWordLong}
-use Rattle.session_commands.specs.Serve.{SessionEnd, link_fault, end_of, IsShortEnd, IsWhole, Session}
+use Rattle.session_commands.specs.Serve.{SessionEnd, end_of, IsShortEnd, IsWhole, Session}
 use Rattle.session_commands.proofs.OnePacket.{never_packet, one_packet_fault, same_packet}
 use Rattle.session_commands.proofs.OneCall.{never_call, one_call}
 use Rattle.session_commands.proofs.OneReply.{body_bytes}

@@ -1,6 +1,5 @@
 -- The constructor that a type is, bare, is the one that it means.
 use Rattle.std.proofs.Common.{◌≡◌, inl, inr, ℕ, Bool, true, false, List, Option, Some, None, refl, ap, sym, ◌∙◌, subst, arith, true≢false}
-use Rattle.std.specs.Prelude.{IsTrue}
 use Rattle.std.proofs.lemmas.Bool.{both_ways}
 use Rattle.std.proofs.lemmas.Option.{none-some, same_Some}
 use Rattle.tl_program.specs.declared.built_in.BuiltIn.{BuiltIn}
@@ -14,7 +13,7 @@ use Rattle.tl_names.specs.Indexes.{first_numbered, types_of}
 use Rattle.tl_names.specs.What.{type_named, what_of}
 use Rattle.tl_names.specs.declared.what.What.{What}
 use Rattle.tl_names.specs.inner.BareSteps.{BareIs, OnlyOf}
-use Rattle.tl_names.specs.inner.WhatSteps.{constructor_in, HasOnly}
+use Rattle.tl_names.specs.inner.WhatSteps.{constructor_in}
 use Rattle.tl_names.proofs.BareNames.{name_bare, name_only}
 use Rattle.tl_names.proofs.FirstIndexes.{first_of_number}
 use Rattle.tl_names.proofs.NameMeanings.{Means, means}

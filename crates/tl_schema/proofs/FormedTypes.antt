@@ -21,7 +21,7 @@ use Rattle.tl_schema.specs.WrongArity.{HasArity, Misapplies}
 use Rattle.tl_schema.specs.WrongArity as has
 use Rattle.tl_schema.specs.NotBare.{HasNoBare}
 use Rattle.tl_schema.specs.EmptyElement.{AppliesToEmpty, IsOneOf}
-use Rattle.tl_schema.specs.Types.{Shape, Shapes, no_shapes, shape}
+use Rattle.tl_schema.specs.Types.{Shapes, no_shapes, shape}
 use Rattle.tl_schema.specs.Schemas.{Declared}
 use Rattle.tl_schema.specs.CheckedPrograms.{IsSchema}
 use Rattle.tl_schema.specs.Meanings.{bare_form, built_in_shape, item_of, meaning, named_shape}

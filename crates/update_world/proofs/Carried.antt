@@ -1,5 +1,5 @@
 -- What packets carry: the sizes of what is spelled, and what is read of it.
-use Rattle.std.proofs.Common.{◌≡◌, ◌≢◌, ◌⊎◌, inl, inr, ℕ, zero, suc, ◌+◌, take, get_or, Option, ◌<◌, ◌≤◌, List, [], ◌∷◌, ◌++◌, length, Some, None, Result, Ok, Err, IfOk, refl, sym, ap, ◌∙◌, subst, arith}
+use Rattle.std.proofs.Common.{◌≡◌, ◌⊎◌, inl, inr, ℕ, zero, suc, ◌+◌, take, get_or, ◌≤◌, List, [], ◌∷◌, ◌++◌, length, Some, Result, Ok, Err, refl, sym, ap, ◌∙◌, subst, arith}
 use Rattle.std.specs.Prelude.{⊤, slice_get}
 use Rattle.std.proofs.lemmas.List.{take_more}
 use Rattle.std.proofs.lemmas.Option.{same_Some, slice_get-get_or, slice_get_within}
@@ -22,7 +22,7 @@ use Rattle.box_wire.specs.Kinds.{calls, frames}
 use Rattle.box_wire.specs.declared.fault.SpellFault.{SpellFault}
 use Rattle.box_wire.specs.declared.fault.SpellFault.TheVariants.{TooLong, Memory as SpellMemory}
 use Rattle.box_world.specs.Sizes.{call_size, frame_size}
-use Rattle.box_world.specs.Fitting.{CallFits, FrameFits, IsHearable}
+use Rattle.box_world.specs.Fitting.{IsHearable}
 use Rattle.box_world.proofs.ReadFrames.{frames_taken}
 use Rattle.update_world.specs.declared.sent.SentPacket.{SentPacket}
 use Rattle.update_world.specs.declared.sent.End.{End}

@@ -1,16 +1,16 @@
 -- What a client does by itself: it wakes, watches a channel, begins anew, asks.
-use Rattle.std.proofs.Common.{◌≡◌, ◌≢◌, ◌⊎◌, inl, inr, ℕ, ◌+◌, ◌<◌, ◌≤◌, ◌^◌, ℤ, List, [], ◌∷◌, ◌++◌, length, map, set, get_or, Bool, true, false, cond, ltb, Option, Some, None, Result, Ok, Err, refl, sym, ap, ◌∙◌, subst, arith}
+use Rattle.std.proofs.Common.{◌≡◌, ◌≢◌, inl, inr, ℕ, ◌<◌, ◌≤◌, ℤ, List, [], ◌∷◌, ◌++◌, length, map, set, get_or, true, false, cond, ltb, Option, Some, None, Ok, Err, refl, sym, ap, ◌∙◌, subst, arith}
 use Rattle.std.specs.Prelude.{slice_get}
 use Rattle.std.specs.List.{All}
-use Rattle.std.proofs.lemmas.Option.{slice_get-get_or, slice_get_within}
+use Rattle.std.proofs.lemmas.Option.{slice_get-get_or}
 use Rattle.std.proofs.lemmas.Bool.Decides.{nat_tests}
 use Rattle.std.proofs.lemmas.List.Elements.{All-head, All-tail, All-weaker}
-use Rattle.box_events.specs.declared.limits.TheConstants.{MAX_ASKS, MAX_CHANNELS, MAX_FRAME_BYTES}
+use Rattle.box_events.specs.declared.limits.TheConstants.{MAX_CHANNELS, MAX_FRAME_BYTES}
 use Rattle.box_events.specs.declared.requests.Numbered.{Numbered}
 use Rattle.box_events.specs.declared.steps.Step.{Step}
 use Rattle.box_events.specs.declared.steps.Step.TheVariants as step
 use Rattle.channel_box.specs.States.{ChannelState}
-use Rattle.channel_box.specs.Steps.{added, channel_of, is_watched, may_watch, watched, watched_if}
+use Rattle.channel_box.specs.Steps.{channel_of, is_watched, may_watch, watched_if}
 use Rattle.channel_box.specs.declared.fault.WatchFault.{WatchFault}
 use Rattle.channel_box.specs.declared.fault.WatchFault.TheVariants.{Already, TooMany, Memory as WatchMemory}
 use Rattle.pts_machine.specs.Steps.{new_lane}
@@ -18,10 +18,9 @@ use Rattle.box_client.specs.States.{ClientState}
 use Rattle.box_client.specs.Asking.{ticks, wakes, restarted}
 use Rattle.box_client.specs.Calls.{WatchesOne}
 use Rattle.wire_profile.specs.Indexes.{ProfileView}
-use Rattle.wire_profile.specs.Profiles.{IsProfile}
-use Rattle.box_world.specs.Worlds.{Packet, request, World, asks, client_steps, goes_on, happens, watches}
+use Rattle.box_world.specs.Worlds.{request, World, asks, client_steps, goes_on, happens, watches}
 use Rattle.box_world.specs.declared.fault.StepFault.TheVariants.{NoClient}
-use Rattle.box_world.specs.Possible.{client_of, past}
+use Rattle.box_world.specs.Possible.{past}
 use Rattle.box_world.specs.Sizes.{call_size}
 use Rattle.box_world.specs.Fitting.{CallFits}
 use Rattle.box_world.proofs.AsksFit.{asks_fit}
@@ -29,13 +28,12 @@ use Rattle.box_world.proofs.PushesBelow.{asks_below}
 use Rattle.box_world.specs.declared.fault.StepFault.{StepFault}
 use Rattle.tl_base.specs.declared.fault.Fault.{Fault}
 use Rattle.tl_base.specs.declared.fault.Fault.TheVariants.{Memory}
-use Rattle.update_world.specs.declared.limits.TheConstants.{MAX_POOL_BYTES}
 use Rattle.update_world.specs.declared.outcome.Outcome.{Outcome}
 use Rattle.update_world.specs.declared.outcome.Outcome.TheVariants as outcome
 use Rattle.update_world.specs.declared.parts.WorldParts.{WorldParts}
 use Rattle.update_world.specs.declared.sent.SentPacket.{SentPacket}
 use Rattle.update_world.specs.Outcomes.{asks_of, outcome_of, watch_cause}
-use Rattle.update_world.specs.Shown.{StandsFor, bytes_of}
+use Rattle.update_world.specs.Shown.{StandsFor}
 use Rattle.update_world.specs.Spelled.{AreSent}
 use Rattle.update_world.specs.Stepping.{Happens}
 use Rattle.update_world.specs.inner.Making.{IsSteady, shown_after, shown_by}

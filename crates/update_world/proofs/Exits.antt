@@ -1,11 +1,11 @@
 -- What a step's function has to show where it ends: that the step happens, or why not.
-use Rattle.std.proofs.Common.{◌≡◌, ℕ, ◌<◌, ◌≤◌, List, [], ◌∷◌, ◌++◌, length, Some, None, Result, Ok, Err, refl, sym, ap, ◌∙◌, subst}
+use Rattle.std.proofs.Common.{◌≡◌, ℕ, ◌<◌, ◌≤◌, List, ◌++◌, length, Some, Ok, Err, refl, sym, ap, ◌∙◌, subst}
 use Rattle.box_events.specs.declared.steps.Step.{Step}
 use Rattle.wire_profile.specs.Indexes.{ProfileView}
 use Rattle.wire_profile.specs.Profiles.{IsProfile}
-use Rattle.box_world.specs.Worlds.{Packet, World, happens}
+use Rattle.box_world.specs.Worlds.{World, happens}
 use Rattle.box_world.specs.declared.fault.StepFault.TheVariants.{NoClient, NoPacket, PoolFull, WrongEnd}
-use Rattle.box_world.specs.Possible.{bytes_in, client_of, packet_of, past, goes_wrong, refusal}
+use Rattle.box_world.specs.Possible.{bytes_in, client_of}
 use Rattle.box_world.specs.declared.fault.StepFault.{StepFault}
 use Rattle.tl_base.specs.declared.fault.Fault.{Fault}
 use Rattle.box_world.specs.declared.fault.StepFault.TheVariants.{NoClient, NoPacket, WrongEnd, PoolFull}
@@ -20,7 +20,7 @@ use Rattle.update_world.specs.Spelled.{AreSent, packet_size}
 use Rattle.update_world.specs.Stepping.{Happens}
 use Rattle.update_world.specs.inner.Making.{shown_after, shown_by}
 use Rattle.update_world.specs.inner.Pools.{Sends}
-use Rattle.update_world.proofs.Refusals.{Reaches, far_client, far_packet, wrong_packet, possible, too_full}
+use Rattle.update_world.proofs.Refusals.{Reaches, far_client, possible, too_full}
 use Rattle.update_world.proofs.SentLists.{sent_bytes}
 
 -- it happens

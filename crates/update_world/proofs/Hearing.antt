@@ -1,7 +1,7 @@
 -- A client receives a packet.
-use Rattle.std.proofs.Common.{◌≡◌, ◌≢◌, ◌⊎◌, inl, inr, ℕ, ◌<◌, ◌≤◌, List, [], ◌∷◌, ◌++◌, length, set, get_or, Bool, true, false, cond, eqb, Option, Some, None, Result, Ok, Err, is_some, ◌||◌, refl, sym, ap, ◌∙◌, subst, arith}
+use Rattle.std.proofs.Common.{◌≡◌, ℕ, ◌<◌, ◌≤◌, List, [], length, set, Bool, true, false, cond, eqb, Option, Some, None, Result, Ok, Err, is_some, ◌||◌, refl, sym, ap, ◌∙◌, subst, arith}
 use Rattle.std.specs.Prelude.{slice_get}
-use Rattle.std.proofs.lemmas.Option.{none-some, slice_get_within}
+use Rattle.std.proofs.lemmas.Option.{slice_get_within}
 use Rattle.std.proofs.lemmas.Bool.Decides.{nat_tests}
 use Rattle.box_events.specs.Events.{EventView}
 use Rattle.box_server.specs.Servers.{ServerState}
@@ -20,31 +20,29 @@ use Rattle.box_events.specs.Weaves.{woven_of}
 use Rattle.box_events.specs.declared.difference_fault.WeaveFault.{WeaveFault}
 use Rattle.box_client.specs.declared.received.Received.{Received}
 use Rattle.box_client.specs.States.{ClientState}
-use Rattle.box_client.specs.Replies.{Outcome, ignored, refuses, becomes, brings, by_channels, channel_replied, group_replied, group_taken, group_woven, nothing_new, replied}
+use Rattle.box_client.specs.Replies.{ignored, becomes, brings, by_channels, channel_replied, group_replied, group_taken, group_woven, nothing_new, replied}
 use Rattle.wire_profile.specs.Indexes.{ProfileView}
 use Rattle.box_world.specs.Worlds.{Packet, push, request, reply, World, after_reply, goes_on, happens, heard, received, run}
 use Rattle.box_world.specs.declared.fault.StepFault.TheVariants.{NoClient, NoPacket, WrongEnd}
-use Rattle.box_world.specs.Possible.{is_for, wrong, past}
+use Rattle.box_world.specs.Possible.{is_for, wrong}
 use Rattle.report_lines.specs.declared.heard.HeardAs.{HeardAs}
 use Rattle.report_lines.specs.declared.heard.HeardAs.TheVariants as told
 use Rattle.box_world.specs.declared.fault.StepFault.{StepFault}
 use Rattle.tl_base.specs.declared.fault.Fault.{Fault}
 use Rattle.box_world.specs.declared.fault.StepFault.TheVariants.{NoClient, NoPacket, WrongEnd, PoolFull}
 use Rattle.tl_base.specs.declared.fault.Fault.TheVariants.{Refused, Memory}
-use Rattle.update_world.specs.declared.limits.TheConstants.{MAX_POOL_BYTES}
 use Rattle.update_world.specs.declared.outcome.Outcome.TheVariants as outcome
 use Rattle.update_world.specs.declared.parts.WorldParts.{WorldParts}
 use Rattle.update_world.specs.declared.sent.SentPacket.{SentPacket}
-use Rattle.update_world.specs.declared.sent.End.{End}
 use Rattle.update_world.specs.Outcomes.{asks_it, heard_as, heard_by, outcome_of}
-use Rattle.update_world.specs.Shown.{StandsFor, bytes_of}
+use Rattle.update_world.specs.Shown.{StandsFor}
 use Rattle.update_world.specs.Spelled.{AreSent, IsSent, packet_size}
 use Rattle.update_world.specs.Stepping.{Happens}
 use Rattle.update_world.specs.inner.Delivering.{IsTaken, after_frame, frame_as}
 use Rattle.update_world.specs.inner.Making.{IsSteady, shown_after, shown_by}
-use Rattle.update_world.specs.inner.Reading.{FrameFor, HasFrameFor, IsNotFor, hears}
+use Rattle.update_world.specs.inner.Reading.{FrameFor, HasFrameFor, hears}
 use Rattle.update_world.proofs.Posts.{stays}
-use Rattle.update_world.proofs.Refusals.{Reaches, far_packet, there, wrong_packet}
+use Rattle.update_world.proofs.Refusals.{far_packet, there, wrong_packet}
 use Rattle.update_world.proofs.Runs.{is_taken}
 use Rattle.update_world.proofs.SentLists.{sent_get, sent_length}
 

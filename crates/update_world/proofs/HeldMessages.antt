@@ -1,14 +1,13 @@
 -- A packet of a pool that stands for messages carries one.
-use Rattle.std.proofs.Common.{◌≡◌, ℕ, List, Bool, true, false, Some, refl, sym, ap, ◌∙◌}
+use Rattle.std.proofs.Common.{◌≡◌, ℕ, List, true, Some, sym, ap, ◌∙◌}
 use Rattle.std.specs.Prelude.{slice_get}
 use Rattle.box_events.specs.declared.replies.Frame.TheVariants.{Push, Reply}
 use Rattle.wire_profile.specs.Indexes.{ProfileView}
 use Rattle.box_world.specs.Worlds.{Packet, push, request, reply}
 use Rattle.update_world.specs.declared.sent.SentPacket.{SentPacket}
-use Rattle.update_world.specs.declared.sent.End.{End}
-use Rattle.update_world.specs.declared.sent.End.TheVariants.{Clients, Server, Client}
+use Rattle.update_world.specs.declared.sent.End.TheVariants.{Server}
 use Rattle.update_world.specs.Spelled.{IsSent}
-use Rattle.update_world.specs.inner.Reading.{HasCall, HasFrame, StandFor, hears, is_request}
+use Rattle.update_world.specs.inner.Reading.{HasCall, HasFrame, StandFor, hears}
 use Rattle.update_world.proofs.SentLists.{sent_get}
 
 frame_in : (p : ProfileView) (s : SentPacket) (x : Packet) (k : ℕ) → hears k s.to ≡ true → IsSent p s x → HasFrame p s.bytes

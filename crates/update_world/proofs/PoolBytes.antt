@@ -1,9 +1,8 @@
 -- How many bytes packets have.
-use Rattle.std.proofs.Common.{◌≡◌, ℕ, zero, suc, ◌+◌, ◌*◌, ◌<◌, ◌≤◌, List, [], ◌∷◌, ◌++◌, length, take, get_or, length-append, refl, sym, ap, ◌∙◌, subst, arith}
+use Rattle.std.proofs.Common.{◌≡◌, ℕ, ◌+◌, ◌*◌, ◌<◌, ◌≤◌, List, [], ◌∷◌, ◌++◌, length, take, get_or, length-append, sym, ap, ◌∙◌, subst, arith}
 use Rattle.std.specs.List.{All}
 use Rattle.std.proofs.lemmas.List.{take_more}
 use Rattle.std.proofs.lemmas.List.Elements.{All-get_or, All-head, All-tail}
-use Rattle.box_events.specs.declared.limits.TheConstants.{MAX_FRAME_BYTES}
 use Rattle.update_world.specs.declared.limits.TheConstants.{MAX_POOL_BYTES}
 use Rattle.update_world.specs.declared.sent.SentPacket.{SentPacket}
 use Rattle.update_world.specs.Shown.{bytes_of}

@@ -1,5 +1,5 @@
 -- Posts that the server receives, and dates.
-use Rattle.std.proofs.Common.{◌≡◌, ◌≢◌, ◌⊎◌, inl, inr, ℕ, ℤ, ◌≤◌, List, [], ◌∷◌, ◌++◌, length, Option, Some, None, Result, Ok, Err, refl, sym, ap, ◌∙◌, subst}
+use Rattle.std.proofs.Common.{◌≡◌, ◌≢◌, inl, inr, ℕ, ℤ, ◌≤◌, List, [], ◌∷◌, ◌++◌, length, Option, Some, None, Result, Ok, Err, refl, sym, ap, ◌∙◌, subst}
 use Rattle.std.proofs.lemmas.Option.{none-some, same_Some}
 use Rattle.std.specs.FinMap as finite
 use Rattle.box_events.specs.declared.limits.TheConstants.{MAX_FRAME_BYTES}
@@ -16,7 +16,7 @@ use Rattle.box_server.specs.declared.posted.Posted.{Posted}
 use Rattle.box_server.specs.Servers.{ServerState, state_of, dated_at}
 use Rattle.box_server.specs.Sound.{IsSound}
 use Rattle.box_server.specs.Posting.{posted, push_of}
-use Rattle.box_server.specs.Receiving.{Receives, answer_by, state_by, post_answer, after_post}
+use Rattle.box_server.specs.Receiving.{Receives, answer_by, state_by}
 use Rattle.box_server.specs.Refusing.{post_cause}
 use Rattle.wire_profile.specs.Indexes.{ProfileView}
 use Rattle.wire_profile.specs.Profiles.{IsProfile}
@@ -41,7 +41,7 @@ use Rattle.update_world.specs.inner.Making.{shown_after, shown_by}
 use Rattle.update_world.specs.inner.Sending.{SendsFrame}
 use Rattle.update_world.proofs.Exits.{done}
 use Rattle.update_world.proofs.Refusals.{Reaches}
-use Rattle.update_world.proofs.Sendings.{Brings, IsFrameOf, frame_done, frame_unsent}
+use Rattle.update_world.proofs.Sendings.{Brings, frame_done, frame_unsent}
 
 -- ---- what the server's answer tells
 

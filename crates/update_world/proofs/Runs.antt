@@ -1,8 +1,8 @@
 -- What holds of a world that stands for a run: its requests are served, its replies are taken, its clients may ask.
-use Rattle.std.proofs.Common.{◌≡◌, ℕ, ◌+◌, ◌*◌, ◌<◌, ◌≤◌, ◌^◌, ℤ, List, [], ◌∷◌, ◌++◌, length, map as each, set, Option, Some, None, refl, sym, ap, ◌∙◌, subst, cond, eqb, Bool, true, false, arith, inl, inr}
+use Rattle.std.proofs.Common.{◌≡◌, ℕ, ◌<◌, ◌≤◌, ◌^◌, ℤ, List, [], ◌∷◌, length, set, Option, Some, None, refl, sym, ap, ◌∙◌, subst, arith}
 use Rattle.std.specs.Prelude.{slice_get}
 use Rattle.std.specs.FinMap as finite
-use Rattle.box_events.specs.declared.limits.TheConstants.{MAX_ASKS, MAX_CHANNELS}
+use Rattle.box_events.specs.declared.limits.TheConstants.{MAX_CHANNELS}
 use Rattle.box_events.specs.declared.positions.Receipt.{Receipt}
 use Rattle.box_events.specs.declared.requests.Numbered.{Numbered}
 use Rattle.box_events.specs.declared.requests.Post.{Post}
@@ -14,7 +14,6 @@ use Rattle.box_events.specs.declared.steps.Step.TheVariants as step
 use Rattle.box_server.specs.Answers.{IsAnswered}
 use Rattle.box_server.specs.Refusing.{post_cause}
 use Rattle.box_server.specs.Servers.{ServerState}
-use Rattle.box_server.specs.Sound.{IsSound}
 use Rattle.box_server.specs.declared.fault.PostFault.{PostFault}
 use Rattle.box_server.proofs.Carrying.{changed_overlays}
 use Rattle.box_client.specs.States.{ClientState}
@@ -22,21 +21,16 @@ use Rattle.box_client.specs.Asking.{ticks, wakes, restarted}
 use Rattle.box_client.specs.Replies.{refuses, replied}
 use Rattle.box_client.specs.declared.fault.ClientFault.{ClientFault}
 use Rattle.box_client.proofs.GivenOnce.{next_past}
-use Rattle.wire_profile.specs.Indexes.{ProfileView}
-use Rattle.wire_profile.specs.Profiles.{IsProfile}
 use Rattle.box_world.specs.Agreeing.{Boxes}
 use Rattle.box_world.specs.Reached.{boxes_of}
 use Rattle.box_world.specs.Requesting.{RequestFits}
-use Rattle.box_world.specs.Worlds.{Packet, push, request, reply, World, client_steps, post_by, served, received, heard, asks, watches, happens, run_from, run, start, new_clients}
+use Rattle.box_world.specs.Worlds.{Packet, push, request, reply, World, client_steps, post_by, served, received, heard, asks, watches, happens, run_from, run, start}
 use Rattle.box_world.proofs.Numbers.{numbers_stay_below}
 use Rattle.box_world.proofs.OneMore.{next_stays_below, received_next}
 use Rattle.box_world.proofs.Reaching.{clients_agree, packets_fit, replies_are_taken}
 use Rattle.box_world.proofs.Stepping.{new_is}
 use Rattle.box_world.proofs.Worlds.{of_set}
-use Rattle.box_world.specs.Fitting.{CallFits}
-use Rattle.box_world.proofs.AsksFit.{asks_fit}
-use Rattle.update_world.specs.declared.limits.TheConstants.{MAX_POOL_BYTES}
-use Rattle.update_world.specs.Shown.{Shown, IsOfRun, bytes_of}
+use Rattle.update_world.specs.Shown.{Shown}
 use Rattle.update_world.specs.inner.Making.{IsSteady}
 use Rattle.update_world.proofs.SentLists.{few_sent, sent_length}
 

@@ -1,14 +1,13 @@
 -- Steps that send a frame, or the requests of a client.
-use Rattle.std.proofs.Common.{◌≡◌, ◌⊎◌, inl, inr, ℕ, ◌≤◌, List, [], ◌∷◌, ◌++◌, length, map, Some, None, Result, Ok, Err, refl, sym, ap, ◌∙◌, subst}
+use Rattle.std.proofs.Common.{◌≡◌, inl, inr, ℕ, ◌≤◌, List, [], ◌∷◌, ◌++◌, length, Result, Ok, Err, refl, sym, ◌∙◌, subst}
 use Rattle.box_events.specs.declared.replies.Frame.{Frame}
-use Rattle.box_events.specs.declared.requests.Numbered.{Numbered}
 use Rattle.box_events.specs.declared.steps.Step.{Step}
 use Rattle.wire_profile.specs.Indexes.{ProfileView}
 use Rattle.wire_profile.specs.Profiles.{IsProfile}
 use Rattle.wire_values.specs.Frames.{frame_tree}
 use Rattle.box_wire.specs.Framing.{Framed}
 use Rattle.box_wire.specs.Kinds.{frames}
-use Rattle.box_world.specs.Worlds.{Packet, request, World, happens}
+use Rattle.box_world.specs.Worlds.{Packet, World, happens}
 use Rattle.box_world.specs.declared.fault.StepFault.{StepFault}
 use Rattle.tl_base.specs.declared.fault.Fault.{Fault}
 use Rattle.tl_base.specs.declared.fault.Fault.TheVariants.{Memory}
@@ -19,10 +18,9 @@ use Rattle.update_world.specs.declared.sent.SentPacket.{SentPacket}
 use Rattle.update_world.specs.declared.sent.End.{End}
 use Rattle.update_world.specs.Outcomes.{outcome_of}
 use Rattle.update_world.specs.Shown.{StandsFor, bytes_of}
-use Rattle.update_world.specs.Spelled.{AreSent, IsFor, IsRead, IsSent, IsSpelled, packet_size}
+use Rattle.update_world.specs.Spelled.{AreSent, IsFor, IsRead, IsSpelled}
 use Rattle.update_world.specs.Stepping.{Happens}
 use Rattle.update_world.specs.inner.Making.{shown_after, shown_by}
-use Rattle.update_world.specs.inner.Pools.{Sends}
 use Rattle.update_world.specs.inner.Sending.{SendsFrame}
 use Rattle.update_world.proofs.Exits.{done, unsent}
 use Rattle.update_world.proofs.Refusals.{Reaches}

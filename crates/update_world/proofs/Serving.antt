@@ -1,12 +1,11 @@
 -- The server answers the request of a packet, and warns.
-use Rattle.std.proofs.Common.{◌≡◌, ℕ, ◌<◌, ◌≤◌, ◌^◌, ◌-◌, ℤ, pos, List, [], ◌∷◌, ◌++◌, length, Option, Some, None, Ok, Err, true, false, refl, sym, ap, ◌∙◌, subst, arith}
+use Rattle.std.proofs.Common.{◌≡◌, ℕ, ◌≤◌, ℤ, pos, List, [], ◌∷◌, ◌++◌, length, Option, Some, Ok, Err, true, false, refl, sym, ap, ◌∙◌, subst, arith}
 use Rattle.std.specs.Prelude.{slice_get}
 use Rattle.std.proofs.lemmas.Option.{slice_get_within}
 use Rattle.box_events.specs.declared.limits.TheConstants.{MAX_FRAME_BYTES}
 use Rattle.box_events.specs.declared.requests.Numbered.{Numbered}
 use Rattle.box_events.specs.declared.replies.Frame.TheVariants.{Push, Reply}
 use Rattle.box_events.specs.declared.replies.Reply.{Reply as SomeReply}
-use Rattle.box_events.specs.declared.steps.Step.{Step}
 use Rattle.box_events.specs.declared.steps.Step.TheVariants as step
 use Rattle.box_events.specs.declared.updates.Push.{Push as SomePush}
 use Rattle.box_events.specs.declared.updates.Push.TheVariants.{Container, TooLong}
@@ -15,11 +14,10 @@ use Rattle.box_events.specs.declared.updates.Update.TheVariants.{ChannelTooLong}
 use Rattle.box_server.specs.Answers.{answer, IsAnswered}
 use Rattle.box_server.specs.Servers.{ServerState}
 use Rattle.box_server.specs.Sound.{IsSound}
-use Rattle.wire_forms.specs.Parts.{number, word_of}
+use Rattle.wire_forms.specs.Parts.{number}
 use Rattle.wire_forms.specs.declared.numbers.TheConstants.{INVOKE}
 use Rattle.wire_forms.proofs.Words.{again}
 use Rattle.wire_profile.specs.Indexes.{ProfileView}
-use Rattle.wire_profile.specs.Profiles.{IsProfile}
 use Rattle.wire_values.specs.Calls.{call_tree}
 use Rattle.wire_profile.specs.declared.rule.Root.TheVariants.{Call}
 use Rattle.wire_profile.specs.declared.rule.Rule.TheVariants.{Number}
@@ -27,9 +25,9 @@ use Rattle.wire_profile.proofs.ClearValues.{call_here}
 use Rattle.wire_profile.proofs.RuleFacts.{clear_of_call, number_is}
 use Rattle.tl_types.specs.Values.{ValueViews, values_of}
 use Rattle.wire_values.specs.Calls.{request_tree}
-use Rattle.box_world.specs.Worlds.{Packet, push, request, reply, World, served, happens, channel_too_long, run}
+use Rattle.box_world.specs.Worlds.{Packet, push, request, reply, World, served, channel_too_long, run}
 use Rattle.box_world.specs.declared.fault.StepFault.TheVariants.{NoPacket, WrongEnd}
-use Rattle.box_world.specs.Possible.{is_served, wrong, past}
+use Rattle.box_world.specs.Possible.{is_served, wrong}
 use Rattle.box_world.specs.Sizes.{frame_size}
 use Rattle.box_world.specs.Fitting.{CallFits, FrameFits, IsNumber}
 use Rattle.box_world.proofs.AnswersFit.{answers_fit}
@@ -44,14 +42,13 @@ use Rattle.update_world.specs.declared.outcome.Outcome.TheVariants as outcome
 use Rattle.update_world.specs.declared.parts.WorldParts.{WorldParts}
 use Rattle.update_world.specs.declared.reading.Asked.{Asked}
 use Rattle.update_world.specs.declared.sent.SentPacket.{SentPacket}
-use Rattle.update_world.specs.declared.sent.End.{End}
 use Rattle.update_world.specs.declared.sent.End.TheVariants.{Clients, Server, Client}
 use Rattle.update_world.specs.Outcomes.{outcome_of}
-use Rattle.update_world.specs.Shown.{Shown, StandsFor}
+use Rattle.update_world.specs.Shown.{StandsFor}
 use Rattle.update_world.specs.Spelled.{AreSent, IsSent, packet_size}
 use Rattle.update_world.specs.Stepping.{Happens}
 use Rattle.update_world.specs.inner.Making.{IsSteady, shown_after, shown_by}
-use Rattle.update_world.specs.inner.Reading.{AsksFrom, HasCallFrom, IsNoCall, is_request}
+use Rattle.update_world.specs.inner.Reading.{AsksFrom, HasCallFrom, is_request}
 use Rattle.update_world.specs.inner.Sending.{SendsFrame}
 use Rattle.update_world.proofs.Refusals.{Reaches, far_packet, there, wrong_packet}
 use Rattle.update_world.proofs.Runs.{is_answered}

@@ -1,5 +1,5 @@
 -- A world stays one that stands for a run of possible steps.
-use Rattle.std.proofs.Common.{◌≡◌, ℕ, zero, suc, ◌+◌, ◌<◌, ◌≤◌, ◌^◌, ℤ, List, [], ◌∷◌, ◌++◌, length, Option, Some, None, Result, Ok, Err, refl, sym, ap, ◌∙◌, subst, arith}
+use Rattle.std.proofs.Common.{◌≡◌, ℕ, zero, suc, ◌+◌, ◌≤◌, ℤ, List, [], ◌∷◌, ◌++◌, length, Option, Some, None, Result, Ok, Err, refl, sym, ap, ◌∙◌, subst, arith}
 use Rattle.std.specs.Prelude.{slice_get}
 use Rattle.std.proofs.lemmas.Option.{none-some}
 use Rattle.std.specs.FinMap as finite
@@ -7,10 +7,8 @@ use Rattle.box_events.specs.declared.positions.Receipt.{Receipt}
 use Rattle.box_events.specs.declared.requests.Post.{Post}
 use Rattle.box_events.specs.declared.steps.Step.{Step}
 use Rattle.box_events.specs.declared.steps.Step.TheVariants as step
-use Rattle.box_server.specs.Posting.{posted}
-use Rattle.box_server.specs.Receiving.{after_post}
 use Rattle.box_server.specs.Refusing.{post_cause}
-use Rattle.box_server.specs.Servers.{ServerState, new_server}
+use Rattle.box_server.specs.Servers.{new_server}
 use Rattle.box_server.specs.Sound.{IsSound}
 use Rattle.box_server.specs.declared.fault.PostFault.{PostFault}
 use Rattle.box_server.proofs.Soundness.{dated_sound, posted_sound}
@@ -20,7 +18,7 @@ use Rattle.wire_profile.specs.Indexes.{ProfileView}
 use Rattle.wire_profile.specs.Profiles.{IsProfile}
 use Rattle.box_wire.specs.StepReading.{IsDated}
 use Rattle.box_world.specs.Worlds.{Packet, push, request, reply, World, asks, client_steps, happens, heard, new_clients, post_by, run, served, start, watches}
-use Rattle.box_world.specs.Possible.{AllPossible, bytes_in, refusal}
+use Rattle.box_world.specs.Possible.{AllPossible}
 use Rattle.box_world.proofs.OneMore.{clients_stay, possible_go_on, runs_go_on}
 use Rattle.box_world.specs.declared.fault.StepFault.{StepFault}
 use Rattle.tl_base.specs.declared.fault.Fault.{Fault}
@@ -30,10 +28,9 @@ use Rattle.update_world.specs.declared.limits.TheConstants.{MAX_POOL_BYTES}
 use Rattle.update_world.specs.declared.outcome.Outcome.{Outcome}
 use Rattle.update_world.specs.declared.parts.WorldParts.{WorldParts}
 use Rattle.update_world.specs.declared.sent.SentPacket.{SentPacket}
-use Rattle.update_world.specs.Shown.{IsOfRun, Shown, StandsFor, bytes_of}
+use Rattle.update_world.specs.Shown.{StandsFor, bytes_of}
 use Rattle.update_world.specs.Spelled.{AreSent, packet_size}
-use Rattle.update_world.specs.Stepping.{Happens}
-use Rattle.update_world.specs.inner.Making.{IsSteady, Makes, shown_after, shown_by, spoil_of}
+use Rattle.update_world.specs.inner.Making.{IsSteady, Makes, shown_by, spoil_of}
 use Rattle.update_world.proofs.Refusals.{not_full}
 use Rattle.update_world.proofs.SentLists.{sent_bytes}
 

@@ -1,8 +1,5 @@
 -- The laws of spellings that packets need, of frames and of calls.
-use Rattle.std.proofs.Common.{ℕ, ◌≤◌}
 use Rattle.std.specs.Prelude.{⊤}
-use Rattle.box_events.specs.declared.requests.Numbered.{Numbered}
-use Rattle.box_events.specs.declared.replies.Frame.{Frame}
 use Rattle.wire_values.specs.Calls.{call_in, call_tree}
 use Rattle.wire_values.specs.CarriedFrames.{IsFrame}
 use Rattle.wire_values.specs.Frames.{frame_in, frame_tree}

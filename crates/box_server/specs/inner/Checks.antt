@@ -1,5 +1,5 @@
 -- How posts are checked one by one. This project's own.
-use Rattle.std.specs.Prelude.{◌≡◌, ℕ, List, length, Bool, false, eqb, ltb, Option, Some, None, Result, Ok, Err}
+use Rattle.std.specs.Prelude.{◌≡◌, ℕ, List, length, Bool, false, eqb, ltb, Some, None, Result, Ok, Err}
 use Rattle.box_events.specs.declared.limits.TheConstants.{MAX_IDS, MAX_BODY_BYTES, MAX_KEY_BYTES, MAX_VALUE_BYTES}
 use Rattle.box_events.specs.Events.{count_of, body_of}
 use Rattle.box_server.specs.declared.fault.PostFault.{PostFault}

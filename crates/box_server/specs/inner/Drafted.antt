@@ -1,9 +1,8 @@
 -- A draft of what posts bring, and the server that has it. This project's own.
-use Rattle.std.specs.Prelude.{◌≡◌, ◌⊎◌, ℕ, ℤ, ◌+◌, ◌<◌, ◌≤◌, List, [], ◌∷◌, ◌++◌, length, Bool, true, false, ltb, eqb, Result, Ok, Err, Option, Some, None}
-use Rattle.std.specs.List.{All}
+use Rattle.std.specs.Prelude.{◌≡◌, ◌⊎◌, ◌+◌, ◌≤◌, List, [], ◌∷◌, ◌++◌, length, false, ltb, eqb, Result, Ok, Err, Some, None}
 use Rattle.box_events.specs.declared.limits.TheConstants.{MAX_END, MAX_IDS}
 use Rattle.box_events.specs.declared.requests.Post.{Post}
-use Rattle.box_events.specs.Events.{EventView, count_of}
+use Rattle.box_events.specs.Events.{count_of}
 use Rattle.box_events.specs.Boxes.{ending}
 use Rattle.box_server.specs.declared.draft.Draft.{Draft}
 use Rattle.box_server.specs.declared.fault.PostFault.{PostFault}

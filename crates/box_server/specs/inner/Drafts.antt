@@ -1,5 +1,5 @@
 -- What posts bring to a server, apart from it, and the server that has it. This project's own.
-use Rattle.std.specs.Prelude.{◌≡◌, ◌⊎◌, ℕ, ℤ, suc, ◌+◌, ◌≤◌, List, [], ◌∷◌, ◌++◌, length, Bool, true, false, ltb, if◌then◌else◌, Option, Some, None, Result, Ok, Err}
+use Rattle.std.specs.Prelude.{◌≡◌, ◌⊎◌, ℕ, ℤ, ◌+◌, ◌≤◌, List, [], ◌∷◌, ◌++◌, length, true, false, ltb, if◌then◌else◌, Option, Some, None, Result, Ok, Err}
 use Rattle.std.specs.Ordering.{int_eq}
 use Rattle.box_events.specs.declared.limits.TheConstants.{MAX_END}
 use Rattle.box_events.specs.declared.positions.LaneName.{LaneName}
@@ -9,7 +9,7 @@ use Rattle.box_events.specs.Boxes.{ending}
 use Rattle.box_server.specs.declared.fault.PostFault.{PostFault}
 use Rattle.box_server.specs.declared.fault.PostFault.TheVariants.{BoxFull, Memory}
 use Rattle.box_server.specs.declared.tail.Tail.TheInside.{Inside}
-use Rattle.box_server.specs.Servers.{ChannelBox, ServerState, channel_end, channel_in, empty_channel}
+use Rattle.box_server.specs.Servers.{ChannelBox, channel_end, channel_in}
 use Rattle.box_server.specs.Posting.{with_event}
 
 -- a tail as the box that it would be: it begins where the box ends that it comes to

@@ -25,7 +25,7 @@ use Rattle.codec_commands.specs.Decode.{DecodeAnswer, OfInput, decode_job}
 use Rattle.codec_commands.specs.Decode as answer
 use Rattle.codec_commands.specs.Typed.{HasPlannedType, OfType, ReachesInput}
 use Rattle.codec_commands.proofs.OneDecode.{one_decode}
-use Rattle.codec_rooms.specs.Decode.{Verdict, faulty, longer, ReadsValue, answer_of, printed, after_reading, after_opening, OfBytes, decodes, decodes_by}
+use Rattle.codec_rooms.specs.Decode.{Verdict, ReadsValue, answer_of, printed, after_reading, after_opening, OfBytes, decodes, decodes_by}
 use Rattle.codec_rooms.proofs.InputRead.{keeps_value}
 use Rattle.codec_rooms.proofs.DecodingLaws.{IsLost, lost_read}
 use Rattle.run_laws.specs.Ended.{RunsJob}

@@ -6,14 +6,14 @@ use Rattle.tl_base.specs.Kinds.{slot_kind}
 use Rattle.tl_base.specs.Outside.{left_of}
 use Rattle.tl_base.specs.declared.host.Out.TheVariants as outs
 use Rattle.tl_base.specs.declared.host.Slot.TheVariants.{Link}
-use Rattle.tl_base.specs.declared.packet.PacketCause.TheVariants.{BadLength, Ended}
+use Rattle.tl_base.specs.declared.packet.PacketCause.TheVariants.{Ended}
 use Rattle.box_events.specs.declared.replies.Frame.{Frame}
 use Rattle.box_client.specs.Asking.{ticks, wakes, is_one_asking}
 use Rattle.box_client.specs.States.{ClientState}
 use Rattle.box_world.specs.Streams.{begun}
 use Rattle.wire_profile.specs.Indexes.{ProfileView}
 use Rattle.wire_profile.specs.Profiles.{IsProfile}
-use Rattle.outside.specs.Events.{Event, Outside, ended, put, write_failed}
+use Rattle.outside.specs.Events.{Event, Outside, put, write_failed}
 use Rattle.outside.specs.Packets.{PacketView, whole, TakesPacket}
 use Rattle.outside.specs.Packets as packets
 use Rattle.outside.specs.Pieces.{InPieces}

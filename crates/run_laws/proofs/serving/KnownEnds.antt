@@ -1,5 +1,5 @@
 -- How a session can end: something is told of each end.
-use Rattle.std.proofs.Common.{◌≡◌, codes, ℕ, ◌+◌, ltb, List, Bool, true, false, Option, Some, None, Result, Ok, Err, refl, sym, subst}
+use Rattle.std.proofs.Common.{◌≡◌, codes, ℕ, ◌+◌, ltb, List, Bool, true, false, Result, Ok, Err, refl, sym, subst}
 use Rattle.tl_base.specs.declared.host.Slot.TheVariants.{Link}
 use Rattle.box_events.specs.declared.requests.Numbered.{Numbered}
 use Rattle.box_server.specs.Servers.{ServerState}

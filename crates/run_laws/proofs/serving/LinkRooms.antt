@@ -7,7 +7,6 @@ use Rattle.tl_base.specs.Outside.{last_or, left_of, written_of}
 use Rattle.tl_base.specs.declared.counts.Kind.TheVariants as kinds
 use Rattle.tl_base.specs.declared.host.Out.TheVariants as outs
 use Rattle.tl_base.specs.declared.host.Slot.TheVariants.{Link}
-use Rattle.tl_base.specs.declared.packet.PacketCause.TheVariants.{BadLength, Ended}
 use Rattle.box_events.specs.declared.requests.Numbered.{Numbered}
 use Rattle.box_server.specs.Servers.{ServerState, dated_at}
 use Rattle.box_server.specs.declared.entry.Entry.{Entry}

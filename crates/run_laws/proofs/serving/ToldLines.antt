@@ -16,7 +16,6 @@ use Rattle.outside.specs.Fits.{Fits}
 use Rattle.outside.specs.Reliable.{IsReliable}
 use Rattle.outside.proofs.Fitting.{fits_both, writes_append, writes_fail_full}
 use Rattle.update_sessions.specs.declared.fault.SessionFault.{SessionFault}
-use Rattle.update_sessions.specs.declared.fault.SessionFault.TheVariants as session
 use Rattle.session_commands.specs.Lines.{served_line}
 use Rattle.session_commands.specs.Serve.{SessionEnd, served, peer_fault, link_fault, end_by, end_of, end_errors, end_output, end_status, first_fault}
 use Rattle.session_commands.specs.SessionEnds.{session_line}

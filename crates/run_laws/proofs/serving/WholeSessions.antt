@@ -7,7 +7,6 @@ use Rattle.box_server.specs.Servers.{ServerState, dated_at}
 use Rattle.box_server.specs.declared.entry.Entry.{Entry}
 use Rattle.wire_profile.specs.Indexes.{ProfileView}
 use Rattle.wire_profile.specs.Profiles.{IsProfile}
-use Rattle.box_wire.specs.Kinds.{calls}
 use Rattle.update_sessions.specs.declared.fault.TheConstants.{MAX_FRAMES}
 use Rattle.update_sessions.specs.Packed.{MeansCall, Packed, SpellsFrame}
 use Rattle.update_sessions.specs.Exchanges.{Exchanged, Side}

@@ -1,6 +1,5 @@
 -- What calls answer: the step's answer, or none where memory ran out. This project's own.
 use Rattle.std.specs.Prelude.{◌≡◌, ℕ, Option, Some, None, option_map, Result, Ok, Err}
-use Rattle.tl_base.specs.declared.packet.PacketCause.TheVariants as packet
 use Rattle.box_server.specs.Servers.{ServerState}
 use Rattle.box_server.specs.declared.store_fault.KeepFault.{KeepFault}
 use Rattle.box_server.specs.declared.store_fault.KeepFault.TheVariants.{Failed, Memory}

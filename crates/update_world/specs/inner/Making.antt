@@ -1,5 +1,5 @@
 -- Steps over a world's parts. This project's own.
-use Rattle.std.specs.Prelude.{◌≡◌, ◌≤◌, List, length, Option, Some, None, Result, Ok, Err}
+use Rattle.std.specs.Prelude.{◌≤◌, Option, Some, None, Result, Ok, Err}
 use Rattle.box_events.specs.declared.steps.Step.{Step}
 use Rattle.box_server.specs.Sound.{IsSound}
 use Rattle.wire_profile.specs.Indexes.{ProfileView}

@@ -1,6 +1,3 @@
-use Rattle.std.proofs.Common.{arith, sym, ◌∙◌, ◌≡◌, ◌<◌, Some, None, length}
-use Rattle.std.specs.declared.option.Option.{Option}
-use Rattle.box_server.specs.declared.fault.PostFault.{PostFault}
 use Rattle.box_server.proofs.Causes.{cause_1, cause_2, cause_2_is, cause_3, cause_3_is, cause_4, cause_4_is, cause_5, cause_5_is, cause_6, cause_6_is, cause_7, cause_7_is, cause_8, cause_8_is}
 use Rattle.box_server.proofs.checking.check.Goals as goal
 

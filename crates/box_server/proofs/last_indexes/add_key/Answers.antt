@@ -1,5 +1,5 @@
-use Rattle.std.proofs.Common.{ap, sym, refl, subst, None, Some, List, ℕ, ◌∙◌, ◌≡◌, is_some, IsSome}
-use Rattle.box_server.specs.inner.LastIndexes.{found, noted_in, index_in}
+use Rattle.std.proofs.Common.{ap, sym, refl, None, Some, List, ℕ, ◌∙◌, ◌≡◌}
+use Rattle.box_server.specs.inner.LastIndexes.{noted_in, index_in}
 use Rattle.box_server.proofs.LastKeys.{placed, keys_kept, kept, not_found}
 use Rattle.box_server.proofs.last_indexes.add_key.Goals as goal
 

@@ -1,5 +1,5 @@
-use Rattle.std.proofs.Common.{arith, ap, sym, subst, ◌∙◌, ◌≡◌, List, ℕ, take, IsSome, length}
-use Rattle.box_server.specs.inner.LastIndexes.{HaveKeys, noted_in, index_in}
+use Rattle.std.proofs.Common.{subst, ◌∙◌, take}
+use Rattle.box_server.specs.inner.LastIndexes.{HaveKeys}
 use Rattle.box_server.proofs.LastKeys.{keys_more, take_whole}
 use Rattle.box_server.proofs.last_indexes.add_keys.Goals as goal
 

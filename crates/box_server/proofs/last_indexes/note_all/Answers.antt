@@ -1,8 +1,8 @@
-use Rattle.std.proofs.Common.{arith, ap, sym, subst, refl, List, ◌∙◌, ◌≡◌, ◌+◌, ◌≤◌, ℕ, cond, Some, Option, Vec, Global, vec_len, vec_capacity, length, append-nil}
+use Rattle.std.proofs.Common.{arith, ap, sym, List, ◌∙◌, ◌≡◌, ℕ, cond, Some, length}
 use Rattle.std.proofs.lemmas.List.{nil_from_length}
-use Rattle.box_events.specs.SettingLists.{Dated, same_key}
+use Rattle.box_events.specs.SettingLists.{same_key}
 use Rattle.box_server.specs.inner.LastIndexes.{noted_in}
-use Rattle.box_server.proofs.LastKeys.{Noting, noting_one, noting_has, noting_all}
+use Rattle.box_server.proofs.LastKeys.{noting_one, noting_has, noting_all}
 use Rattle.box_server.proofs.last_indexes.note_all.Goals as goal
 
 pub note-requires : goal.note-requires

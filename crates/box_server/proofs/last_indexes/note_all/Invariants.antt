@@ -1,4 +1,4 @@
-use Rattle.std.proofs.Common.{◌≡◌, ◌+◌, ◌≤◌, vec_len, vec_capacity}
+use Rattle.std.proofs.Common.{◌+◌, ◌≤◌, vec_len, vec_capacity}
 use Rattle.box_server.proofs.LastKeys.{Noting}
 use Rattle.box_server.proofs.last_indexes.note_all.Given as goal
 

@@ -1,4 +1,4 @@
-use Rattle.std.proofs.Common.{ℤ, ap, ap₂, sym, subst, ◌∙◌, ◌≡◌, true, false, List, ◌++◌, ◌∷◌, [], Some, rules, w64}
+use Rattle.std.proofs.Common.{ℤ, ap, ◌∙◌, ◌++◌, ◌∷◌, [], rules, w64}
 use Rattle.std.specs.List.{list_any}
 use Rattle.std.specs.Ordering.{int_eq}
 use Rattle.std.proofs.lemmas.Int.{to_z-of_z}

@@ -1,6 +1,5 @@
-use Rattle.std.proofs.Common.{arith, ap, sym, ◌∙◌, ◌<◌, ◌≤◌, length, map}
+use Rattle.std.proofs.Common.{arith, map}
 use Rattle.std.proofs.lemmas.List.{length-map}
-use Rattle.box_server.specs.Entries.{entries_of}
 use Rattle.box_server.specs.inner.Insides.{channel_view}
 use Rattle.box_server.proofs.Drafting.{next_entry, no_entry}
 use Rattle.box_server.proofs.Openings.{opened_none, opened_one, opened_many, opened_few}

@@ -3,7 +3,6 @@ use Rattle.std.proofs.lemmas.List.{nil_from_length, length_push, length-set}
 use Rattle.box_events.specs.Boxes.{ending}
 use Rattle.box_events.specs.Events.{EventView}
 use Rattle.box_server.specs.Posting.{cut}
-use Rattle.box_server.specs.Servers.{ChannelBox}
 use Rattle.box_server.specs.inner.Insides.{channel_view}
 use Rattle.box_server.specs.inner.Rooms.{grown}
 use Rattle.box_server.proofs.Roominess.{room_less, ends_less, last_meets, grown_one, grown_none}

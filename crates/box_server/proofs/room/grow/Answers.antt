@@ -1,6 +1,5 @@
-use Rattle.std.proofs.Common.{arith, ap, sym, ◌∙◌, ◌≡◌, ◌≤◌, ◌++◌, length, map, List, append-nil}
+use Rattle.std.proofs.Common.{arith, ap, sym, ◌∙◌, ◌≤◌, ◌++◌, length, map, List}
 use Rattle.std.proofs.lemmas.List.{nil_from_length, length-map}
-use Rattle.box_server.specs.declared.channel.Channel.{Channel}
 use Rattle.box_server.specs.Servers.{ChannelBox}
 use Rattle.box_server.specs.inner.Insides.{channel_view}
 use Rattle.box_server.specs.inner.Rooms.{grown}

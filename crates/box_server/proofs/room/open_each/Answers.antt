@@ -1,4 +1,3 @@
-use Rattle.std.proofs.Common.{arith, ap, sym, ◌∙◌}
 use Rattle.box_server.proofs.Roominess.{room_push, views_push, taken_length}
 use Rattle.box_server.proofs.room.open_each.Goals as goal
 

@@ -1,4 +1,4 @@
-use Rattle.std.proofs.Common.{arith, ap, sym, ◌∙◌, ◌<◌, length}
+use Rattle.std.proofs.Common.{arith, ◌<◌, length}
 use Rattle.box_server.proofs.Roominess.{room_next, same_views, views_length}
 use Rattle.box_server.proofs.room.reserve_each.Goals as goal
 

@@ -1,4 +1,4 @@
-use Rattle.std.proofs.Common.{◌≡◌, map, length}
+use Rattle.std.proofs.Common.{◌≡◌, map}
 use Rattle.box_server.specs.inner.Insides.{channel_view}
 use Rattle.box_server.specs.inner.Rooms.{HaveRoom}
 use Rattle.box_server.proofs.room.reserve_each.Given as goal

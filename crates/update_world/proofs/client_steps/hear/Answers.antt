@@ -1,6 +1,5 @@
-use Rattle.std.proofs.Common.{arith, refl, ◌<◌, ◌∙◌, ◌≡◌, length, sym, subst, Some, Err, List}
+use Rattle.std.proofs.Common.{arith, refl, ◌<◌, length}
 use Rattle.std.proofs.lemmas.Result.{err_from_is_err_and}
-use Rattle.std.specs.Prelude.{slice_get}
 use Rattle.std.specs.Vec.{with_item}
 use Rattle.box_events.specs.declared.steps.Step.TheVariants as step
 use Rattle.update_world.specs.declared.parts.WorldParts.{WorldParts}

@@ -1,4 +1,4 @@
-use Rattle.std.proofs.Common.{arith, refl, ◌<◌, ◌∙◌, ◌≡◌, ◌≤◌, length, sym, subst, ap, List, Ok, Err}
+use Rattle.std.proofs.Common.{arith, refl, ◌<◌, ◌∙◌, ◌≤◌, length, sym, subst, ap, List, Ok, Err}
 use Rattle.std.specs.List.{All}
 use Rattle.std.proofs.lemmas.Result.{err_from_is_err_and}
 use Rattle.std.specs.Vec.{with_item}

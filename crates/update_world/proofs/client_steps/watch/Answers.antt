@@ -1,9 +1,8 @@
-use Rattle.std.proofs.Common.{arith, refl, sym, ◌≡◌, ◌<◌, ℤ, length, rules, w64, Some, None, Ok, Err, Option, to_z, of_z, subst}
+use Rattle.std.proofs.Common.{arith, refl, sym, ◌≡◌, ◌<◌, ℤ, length, rules, w64, Some, None, Ok, Err, to_z, of_z, subst}
 use Rattle.std.proofs.lemmas.Int.{to_z-of_z}
 use Rattle.std.specs.Vec.{with_item}
 use Rattle.box_events.specs.declared.steps.Step.TheVariants as step
 use Rattle.box_client.specs.Calls.{WatchesOne}
-use Rattle.channel_box.specs.declared.fault.WatchFault.{WatchFault}
 use Rattle.channel_box.specs.declared.fault.WatchFault.TheVariants.{Already, TooMany}
 use Rattle.update_world.specs.declared.outcome.Outcome.TheVariants as outcome
 use Rattle.update_world.specs.declared.parts.WorldParts.{WorldParts}

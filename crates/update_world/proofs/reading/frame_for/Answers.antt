@@ -1,4 +1,4 @@
-use Rattle.std.proofs.Common.{◌≡◌, ◌∙◌, List, ℕ, sym, subst}
+use Rattle.std.proofs.Common.{◌∙◌, sym, subst}
 use Rattle.update_world.specs.inner.Reading.{HasFrame}
 use Rattle.update_world.proofs.HeldMessages.{has_frame}
 use Rattle.update_world.proofs.reading.frame_for.Goals as goal

@@ -1,9 +1,7 @@
-use Rattle.std.proofs.Common.{◌≡◌, ◌∙◌, ℤ, ℕ, List, [], ◌∷◌, ◌++◌, ap, sym, refl, subst, rules, w64, to_z, of_z, arith}
+use Rattle.std.proofs.Common.{◌≡◌, ap, refl, rules, w64, to_z, of_z}
 use Rattle.std.proofs.lemmas.Int.{to_z-of_z}
 use Rattle.std.proofs.lemmas.Result.{err_from_is_err_and}
 use Rattle.box_events.specs.declared.positions.State.{State}
-use Rattle.box_events.specs.declared.updates.Update.{Update}
-use Rattle.box_events.specs.declared.updates.Update.TheVariants.{ChannelTooLong}
 use Rattle.box_events.specs.declared.updates.Push.{Push as SomePush}
 use Rattle.box_events.specs.declared.updates.Push.TheVariants.{Container}
 use Rattle.box_world.specs.Worlds.{channel_too_long}

@@ -1,7 +1,6 @@
-use Rattle.std.proofs.Common.{◌≡◌, refl, ap, rules, w64, to_z, of_z, Ok, Err}
+use Rattle.std.proofs.Common.{◌≡◌, refl, rules, w64, to_z, of_z, Ok, Err}
 use Rattle.std.proofs.lemmas.Int.{to_z-of_z}
 use Rattle.std.proofs.lemmas.Result.{err_from_is_err_and}
-use Rattle.box_server.specs.Receiving.{Receives}
 use Rattle.update_world.specs.declared.parts.WorldParts.{WorldParts}
 use Rattle.update_world.proofs.Posts.{known_of, new_of, post_done, post_known, post_refused, post_unsent, push_short, refused_post, same_call}
 use Rattle.update_world.proofs.server_steps.post.Goals as goal

@@ -1,4 +1,3 @@
-use Rattle.std.proofs.Common.{arith, sym, ◌∙◌, Err}
 use Rattle.std.proofs.lemmas.Result.{err_from_is_err_and}
 use Rattle.box_server.proofs.Drafting.{adding_none, adding_one, added_all, adding_refused, ids_next, next_entry, no_entry}
 use Rattle.box_server.proofs.draft.Draft.add_all.Goals as goal

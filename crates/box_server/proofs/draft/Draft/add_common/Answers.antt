@@ -1,12 +1,8 @@
-use Rattle.std.proofs.Common.{ℤ, refl, arith, ap, ap₂, sym, subst, ◌∙◌, ◌≡◌, ◌++◌, ◌∷◌, [], List, Some, None, Ok, Err, rules, w64}
-use Rattle.std.proofs.lemmas.Int.{to_z-of_z}
+use Rattle.std.proofs.Common.{refl, ap, ◌∙◌, ◌++◌, ◌∷◌, []}
 use Rattle.std.proofs.lemmas.Result.{err_from_is_err_and}
-use Rattle.box_events.specs.declared.positions.LaneName.TheVariants.{Common, Secret, Channel, Seq}
-use Rattle.box_events.specs.declared.updates.Update.{Update}
-use Rattle.box_events.specs.declared.updates.Update.TheVariants.{Common as CommonUpdate, Secret as SecretUpdate, Channel as ChannelUpdate, Setting as SettingUpdate}
-use Rattle.box_events.specs.Events.{EventView, added}
-use Rattle.box_server.specs.inner.Drafts.{AddsTo, AddsToChannel}
-use Rattle.box_server.proofs.Drafting.{refuses_common, refuses_secret, refuses_channel, adds_common, adds_secret, adds_channel, adds_setting}
+use Rattle.box_events.specs.declared.updates.Update.TheVariants.{Common as CommonUpdate}
+use Rattle.box_events.specs.Events.{EventView}
+use Rattle.box_server.proofs.Drafting.{refuses_common, adds_common}
 use Rattle.box_server.proofs.draft.Draft.add_common.Goals as goal
 
 pub returns : goal.returns

@@ -1,4 +1,4 @@
-use Rattle.std.proofs.Common.{refl, ap, sym, subst, ◌∙◌, map}
+use Rattle.std.proofs.Common.{refl, ap, subst, ◌∙◌, map}
 use Rattle.box_server.specs.declared.draft.Draft.{Draft}
 use Rattle.box_server.specs.Servers.{ChannelBox, ServerState}
 use Rattle.box_server.specs.inner.Drafted.{IsBlank}

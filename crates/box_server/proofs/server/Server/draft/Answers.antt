@@ -1,1 +1,0 @@
-use Rattle.box_server.proofs.server.Server.draft.Goals as goal

@@ -1,6 +1,3 @@
-use Rattle.std.proofs.Common.{arith, refl, sym, ap, ap₂, subst, ◌∙◌, List}
-use Rattle.std.specs.FinMap.{len-empty}
-use Rattle.box_events.specs.SettingLists.{Dated}
 use Rattle.box_server.proofs.KeyCounts.{indexed_none}
 use Rattle.box_server.proofs.setting_list.SettingList.new.Goals as goal
 

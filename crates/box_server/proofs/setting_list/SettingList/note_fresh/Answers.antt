@@ -1,4 +1,4 @@
-use Rattle.std.proofs.Common.{sym, ap, subst, ◌∙◌, ◌≡◌, List, ℕ, cond, Some, None, Option}
+use Rattle.std.proofs.Common.{sym, ap, ◌∙◌, ◌≡◌, List, ℕ, cond, Some, None}
 use Rattle.box_events.specs.SettingLists.{same_key}
 use Rattle.box_server.specs.inner.LastIndexes.{noted_in}
 use Rattle.box_server.proofs.LastKeys.{placed}
