@@ -98,7 +98,7 @@ impl<T: Drop> From<AllocFailed<T>> for KeepFault {
 pub enum StoreFault {
     /// The server refuses them, not for memory.
     Refused { fault: PostFault },
-    /// A call to the keeper failed.
+    /// A call to the keeper failed. One that tells no entries is to be opened anew.
     Failed,
     Memory,
 }

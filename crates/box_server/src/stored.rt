@@ -63,7 +63,8 @@ impl<K: Keeper> Stored<K> {
     }
 
     /// Takes posts as the server does. New ones are kept first, once nothing else can fail: where the keeper fails, or memory runs out, the server is
-    /// as before, and nothing is answered.
+    /// as before, and nothing is answered. A keeper that tells no entries may have the new one although it failed: open it anew then, and take no more
+    /// posts by this store.
     pub fn post(&mut self, random_id: i64, posts: Posts) -> Result<Posted, StoreFault>
         ensures posts { TakesPosts self.old random_id posts result self.new }
         ensures sound { IsSound self.old.server }
