@@ -3,8 +3,7 @@ use Rattle.std.proofs.Common.{◌≡◌, List, ℕ, sym, ◌∙◌, subst}
 use Rattle.tl_base.specs.Outside.{View}
 use Rattle.outside.specs.Answer.{Answer}
 use Rattle.commands.specs.Requests.{RequestText, check, decode, encode, replay, make, serve, post, client, layers, calls, AsksFor, AsksNothing}
-use Rattle.run_laws.specs.Requests.{ShowsBytesFor}
-use Rattle.run_laws.specs.Answers.{usage, AnswerTo, Answers, no_request, requested, HasOneAnswer}
+use Rattle.run_laws.specs.Answers.{usage, AnswerTo, Answers, no_request, requested, HasOneAnswer, RequestHasOneAnswer}
 use Rattle.call_commands.proofs.OneCalls.{one_calls}
 use Rattle.codec_commands.proofs.OneCheck.{one_check}
 use Rattle.codec_commands.proofs.OneDecode.{one_decode}
@@ -18,7 +17,7 @@ use Rattle.update_commands.proofs.OneMake.{one_make}
 use Rattle.update_commands.proofs.ProfiledFiles.{one_replay}
 use Rattle.commands.proofs.Rows.{one_request}
 
-one_to : (r : RequestText) (v : View) → ShowsBytesFor v r → (a c : Answer) → AnswerTo r v a → AnswerTo r v c → a ≡ c
+pub one_to : RequestHasOneAnswer
 one_to (check schema) v shows a c = one_check v.files schema a c
 one_to (decode schema type input) v shows a c = one_decode v.files schema type input a c
 one_to (encode schema type input) v shows a c = one_encode v.files schema type input a c

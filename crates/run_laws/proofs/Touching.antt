@@ -32,11 +32,11 @@ use Rattle.commands.specs.Requests.{RequestText, AsksFor, AsksNothing, check, de
 use Rattle.commands.specs.Work.{RunsRequest, RunsWords, no_request, requested, no_memory}
 use Rattle.commands.proofs.Rows.{one_request}
 use Rattle.run_laws.specs.Requests.{job_of}
-use Rattle.run_laws.specs.Touched.{Explained, IsOfRequest, IsTelling, IsUnlinked, WordsHaveCause, WordsLeaveLinks, WordsTouch}
+use Rattle.run_laws.specs.Touched.{Explained, IsOfRequest, IsTelling, IsUnlinked, RequestsHaveCause, RequestsTouch, WordsHaveCause, WordsLeaveLinks, WordsTouch}
 
 -- ---- what is touched
 
-pub request_touches : (r : RequestText) (t : List Event) (status : Status) → RunsRequest r t status → Throughout (IsOfRequest r) t
+pub request_touches : RequestsTouch
 request_touches (check schema) = checking.check_touches schema
 request_touches (decode schema type input) = decoding.decode_touches schema type input
 request_touches (encode schema type input) = encoding.encode_touches schema type input
@@ -195,7 +195,7 @@ never P Q apart (e ∷ t) all (inr is) = never P Q apart t all.1 is
 
 -- ---- causes
 
-pub request_explains : (r : RequestText) (t : List Event) (status : Status) → RunsRequest r t status → Explains status t
+pub request_explains : RequestsHaveCause
 request_explains (check schema) = checking.check_has_cause schema
 request_explains (decode schema type input) = decoding.decode_has_cause schema type input
 request_explains (encode schema type input) = encoding.encode_has_cause schema type input

@@ -27,6 +27,10 @@ ShowsBytesAsked words v = (r : RequestText) → AsksFor words r → ShowsBytesFo
 abbrev pub HasOneAnswer : Type 0
 HasOneAnswer = (words : List (List ℕ)) (v : View) → ShowsBytesAsked words v → (a b : Answer) → Answers words v a → Answers words v b → a ≡ b
 
+-- nor has a request more than one, whichever operands it has: also such as no words have
+abbrev pub RequestHasOneAnswer : Type 0
+RequestHasOneAnswer = (r : RequestText) (v : View) → ShowsBytesFor v r → (a b : Answer) → AnswerTo r v a → AnswerTo r v b → a ≡ b
+
 -- there is an answer to these words, over this outside
 abbrev pub Answered : List (List ℕ) → View → Type 0
 Answered words v = (a : Answer) × Answers words v a

@@ -9,7 +9,7 @@ use Rattle.tl_base.specs.declared.host.Slot.TheVariants as slots
 use Rattle.outside.specs.declared.status.Status.{Status}
 use Rattle.outside.specs.declared.status.Status.TheVariants.{Usage, ReadFault, WriteFault, LinkFault, PeerFault}
 use Rattle.outside.specs.Events.{Event, counted_all, opened, took, ended, read_failed, created, put, write_failed, listened, connected, accepted, told}
-use Rattle.outside.specs.Laws.{Happened, IsFailure, IsFromLink, Throughout}
+use Rattle.outside.specs.Laws.{Explains, Happened, IsFailure, IsFromLink, Throughout}
 use Rattle.codec_rooms.specs.Commands as codec
 use Rattle.codec_rooms.specs.Laws.{IsOf}
 use Rattle.call_commands.specs.Commands as calling
@@ -18,7 +18,7 @@ use Rattle.session_rooms.specs.ClientLaws.{IsOfClient}
 use Rattle.session_rooms.specs.PostLaws.{IsOfPost}
 use Rattle.serve_rooms.specs.ServeLaws.{IsOfServe}
 use Rattle.commands.specs.Requests.{RequestText, AsksFor, AsksNothing, AskForOne, check, decode, encode, replay, make, serve, post, client, layers, calls}
-use Rattle.commands.specs.Work.{RunsWords}
+use Rattle.commands.specs.Work.{RunsRequest, RunsWords}
 use Rattle.run_laws.specs.Ended.{LinkFailed, ReadFailed, WriteFailed}
 use Rattle.run_laws.specs.Requests.{job_of}
 
@@ -95,6 +95,16 @@ pub record Explained (words : List (List ℕ)) (t : List Event) (status : Status
 
 abbrev pub WordsHaveCause : Type 0
 WordsHaveCause = (words : List (List ℕ)) (t : List Event) (status : Status) → RunsWords words t status → Explained words t status
+
+-- ---- of a request's run, whichever operands it has: also such as no words have
+
+-- nothing happens but what is of it
+abbrev pub RequestsTouch : Type 0
+RequestsTouch = (r : RequestText) (t : List Event) (status : Status) → RunsRequest r t status → Throughout (IsOfRequest r) t
+
+-- a fault's status comes only where a call of that kind failed, that of the other end's fault only where something came from there, and the usage never
+abbrev pub RequestsHaveCause : Type 0
+RequestsHaveCause = (r : RequestText) (t : List Event) (status : Status) → RunsRequest r t status → Explains status t
 
 -- ---- counts
 

@@ -1,10 +1,10 @@
 //! Laws over the definitions.
 ghost use Rattle.std.specs.Prelude.{ℕ, List};
 ghost use Rattle.commands.specs.Requests.{Asks};
-ghost use Rattle.run_laws.specs.Answers.{HasAnAnswer, HasOneAnswer};
+ghost use Rattle.run_laws.specs.Answers.{HasAnAnswer, HasOneAnswer, RequestHasOneAnswer};
 ghost use Rattle.run_laws.specs.Runs.{RequestsAreTold, RequestsEnd, RequestsReadFiles, StoredAreTold, StoredEnds, StoredReadFiles, WordsAreSound, WordsAreTold, WordsEnd, WordsKeep, WordsReadFiles};
 ghost use Rattle.run_laws.specs.Sessions.{AllAnswer, NextAnswers};
-ghost use Rattle.run_laws.specs.Touched.{FailuresAreCounted, WordsHaveCause, WordsLeaveLinks, WordsTouch};
+ghost use Rattle.run_laws.specs.Touched.{FailuresAreCounted, RequestsHaveCause, RequestsTouch, WordsHaveCause, WordsLeaveLinks, WordsTouch};
 
 /// Over any host a run of words of no request does nothing but tell a line, and one of a request nothing but what is of it: its files, each by its slot, its
 /// address, and its outs. One that uses no links touches none.
@@ -30,11 +30,13 @@ pub fn words_end()
     ensures told { WordsAreTold }
 {}
 
-/// So does a request's run, whichever operands it has: also such as no words have, as an empty name or one that begins with `-`.
+/// All this holds of a request's run, whichever operands it has: also such as no words have, as an empty name or one that begins with `-`.
 pub fn requests_end()
     ensures ends { RequestsEnd }
     ensures reads { RequestsReadFiles }
     ensures told { RequestsAreTold }
+    ensures touched { RequestsTouch }
+    ensures caused { RequestsHaveCause }
 {}
 
 /// What isn't of its words is as before, whatever happens.
@@ -58,9 +60,10 @@ pub fn all_sessions_answer()
 {}
 
 /// Words have one answer at most, so that a run which ends with an answer ends with theirs: of `replay` and `calls` where files hold bytes, of `serve`,
-/// `post` and `client` where all that is shown are bytes, as each host shows them.
+/// `post` and `client` where all that is shown are bytes, as each host shows them. So has a request, whichever operands it has.
 pub fn words_and_files_have_one_answer()
-    ensures { HasOneAnswer }
+    ensures words { HasOneAnswer }
+    ensures request { RequestHasOneAnswer }
 {}
 
 /// Words have an answer where the files that they name are there and files hold bytes, as do links where they are used, moments have 31 bits, as each
