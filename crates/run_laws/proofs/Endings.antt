@@ -18,10 +18,10 @@ use Rattle.commands.specs.Work.{RunsRequest, RunsWords, no_request, requested, n
 use Rattle.commands.proofs.Rows.{one_request}
 use Rattle.run_laws.specs.Answers.{usage}
 use Rattle.run_laws.specs.Answers as answers
-use Rattle.run_laws.specs.Ended.{Ended, IsShown, LinkFailed, RunsJob, StopsIn}
+use Rattle.run_laws.specs.Ended.{Ended, IsShown, LinkFailed, StopsIn}
 use Rattle.run_laws.specs.Ended as job
-use Rattle.run_laws.specs.Requests.{job_of}
-use Rattle.run_laws.specs.Runs.{AnswerFits, Ends, Keeps, MayAnswer, StopsAfter, WordsAreSound, WordsEnd, WordsKeep, answered, read_failed, read_failed_later, write_failed, link_failed, out_of_memory, out_of_memory_later, out_of_memory_told}
+use Rattle.run_laws.specs.Requests.{ReadsBytesFor, ShowsBytesFor, job_of}
+use Rattle.run_laws.specs.Runs.{AnswerFits, Ends, Keeps, MayAnswer, RequestsEnd, StopsAfter, WordsAreSound, WordsEnd, WordsKeep, answered, read_failed, read_failed_later, write_failed, link_failed, out_of_memory, out_of_memory_later, out_of_memory_told}
 use Rattle.run_laws.proofs.OneAnswer.{answer_to}
 use Rattle.run_laws.proofs.Told.{tells_line, only_errors, output_kept, leaves_all}
 use Rattle.run_laws.proofs.Touching.{telling}
@@ -37,9 +37,35 @@ use Rattle.run_laws.proofs.Recovering as recovered
 use Rattle.run_laws.proofs.links.PostRuns as posted
 use Rattle.run_laws.proofs.serving.ServeRuns as served
 
+-- ---- an outside that shows what it holds shows what each request needs
+
+reads_for : (r : RequestText) (v : View) → IsShown v → ReadsBytesFor v r
+reads_for (check schema) v shown = tt
+reads_for (decode schema type input) v shown = tt
+reads_for (encode schema type input) v shown = tt
+reads_for (replay schema journal clients) v shown = tt
+reads_for (make schema number steps) v shown = tt
+reads_for (serve schema address sessions) v shown = tt
+reads_for (post schema address input) v shown = tt
+reads_for (client schema address state channels) v shown = tt
+reads_for (layers old new type) v shown = tt
+reads_for (calls schema input) v shown = shown.bytes.files
+
+shows_for : (r : RequestText) (v : View) → IsShown v → ShowsBytesFor v r
+shows_for (check schema) v shown = tt
+shows_for (decode schema type input) v shown = tt
+shows_for (encode schema type input) v shown = tt
+shows_for (replay schema journal clients) v shown = shown.bytes.files
+shows_for (make schema number steps) v shown = tt
+shows_for (serve schema address sessions) v shown = shown.bytes
+shows_for (post schema address input) v shown = shown.bytes
+shows_for (client schema address state channels) v shown = shown.bytes
+shows_for (layers old new type) v shown = tt
+shows_for (calls schema input) v shown = shown.bytes.files
+
 -- ---- a request's run is its job's
 
-pub runs_job : (r : RequestText) → RunsJob (job_of r) (outs_of r) (work_of r)
+pub runs_job : RequestsEnd
 runs_job (check schema) = checked.check_runs schema
 runs_job (decode schema type input) = decoded.decode_runs schema type input
 runs_job (encode schema type input) = encoded.encode_runs schema type input
@@ -76,7 +102,7 @@ module _ (words : List (List ℕ)) (t : List Event) (status : Status) (s n : Out
   Ending = Ends words t status s.view n.view
 
   request_ends : (r : RequestText) → AsksFor words r → RunsRequest r t status → Ending
-  request_ends r asks h = ends_as words r asks t status s.view n.view ((runs_job r).ends t status s n shown h f)
+  request_ends r asks h = ends_as words r asks t status s.view n.view ((runs_job r).ends t status s n (reads_for r s.view shown) h f)
 
 -- ---- a line alone
 
@@ -110,7 +136,7 @@ kept_by : (words : List (List ℕ)) (t : List Event) (status : Status) (s n : Ou
 kept_by words t status s n shown f (no_request none h) = record { of_none = λ _. only_errors t s n (telling usage_line Usage status t h) f; of_request = λ r asks. absurd (none r asks) }
 kept_by words t status s n shown f (requested r asks h) = record {
   of_none = λ none. absurd (none r asks);
-  of_request = λ x also. subst (λ (y : RequestText). (job_of y).keeps s.view n.view) (one_request words r x asks also) ((runs_job r).keeps t status s n shown h f);
+  of_request = λ x also. subst (λ (y : RequestText). (job_of y).keeps s.view n.view) (one_request words r x asks also) ((runs_job r).keeps t status s n h f);
 }
 kept_by words t status s n shown f (no_memory h) =
     let only = only_errors t s n (telling memory_line Memory status t h) f in
@@ -129,7 +155,7 @@ no_fault status is same (inr (inr e)) read write link = link (sym same ∙ e)
 sound_by : (words : List (List ℕ)) (t : List Event) (status : Status) (s n : Outside) → IsShown s.view → Fits t s n → RunsWords words t status → IsReliable s → AnswerFits words s.view → IsFault status → ⊥
 sound_by words t status s n shown f (no_request none h) reliable fits fault = no_fault status Usage (told_status usage_line Usage t status h) fault (λ e. cc) (λ e. cc) (λ e. cc)
 sound_by words t status s n shown f (requested r asks h) reliable fits fault =
-    (runs_job r).sound t status s n shown h f reliable (fits.0, answer_to words s.view r fits.0 asks fits.1, fits.2) fault
+    (runs_job r).sound t status s n (shows_for r s.view shown) h f reliable (fits.0, answer_to words s.view r fits.0 asks fits.1, fits.2) fault
 sound_by words t status s n shown f (no_memory h) reliable fits fault = no_fault status Memory (told_status memory_line Memory t status h) fault (λ e. cc) (λ e. cc) (λ e. cc)
 
 pub words_are_sound : WordsAreSound

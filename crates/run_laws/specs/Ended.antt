@@ -1,6 +1,7 @@
 -- How a run of a job ends over an outside that shows what it holds. This project's own.
 use Rattle.std.specs.Prelude.{◌≡◌, ◌<◌, ◌≤◌, ◌^◌, ◌⊎◌, ℕ, ◌+◌, List, ◌++◌, length}
 use Rattle.std.specs.List.{AllByRecursion}
+use Rattle.tl_base.specs.Contents.{HoldBytes}
 use Rattle.tl_base.specs.Outside.{View, ShowsBytes}
 use Rattle.tl_base.specs.declared.counts.Kind.TheVariants as kinds
 use Rattle.tl_base.specs.declared.host.Out.{Out}
@@ -82,23 +83,31 @@ pub record IsShown (v : View) : Type 0 where
   pub bytes : ShowsBytes v
   pub moments : AllByRecursion (λ m. m < 2 ^ 31) v.moments
 
--- a run of the work over an outside ends so
-abbrev pub RunEnds : Job → List Out → Step Status → Type 0
-RunEnds job outs work = (t : List Event) (status : Status) (s n : Outside) → IsShown s.view → RunsIn outs work t status → Fits t s n → Ended job t status s.view n.view
+-- whatever an outside shows
+abbrev pub Anything : View → Type 0
+Anything v = Unit {0}
+
+-- its files hold bytes
+abbrev pub FileBytes : View → Type 0
+FileBytes v = HoldBytes v.files
+
+-- a run of the work ends so, over an outside that shows this
+abbrev pub RunEnds : (View → Type 0) → Job → List Out → Step Status → Type 0
+RunEnds Shows job outs work = (t : List Event) (status : Status) (s n : Outside) → Shows s.view → RunsIn outs work t status → Fits t s n → Ended job t status s.view n.view
 
 -- it keeps what the job keeps
 abbrev pub RunKeeps : Job → List Out → Step Status → Type 0
-RunKeeps job outs work = (t : List Event) (status : Status) (s n : Outside) → IsShown s.view → RunsIn outs work t status → Fits t s n → job.keeps s.view n.view
+RunKeeps job outs work = (t : List Event) (status : Status) (s n : Outside) → RunsIn outs work t status → Fits t s n → job.keeps s.view n.view
 
 -- where no call was told to fail, and the job has an answer with room for it, no fault's status comes
-abbrev pub RunIsSound : Job → List Out → Step Status → Type 0
-RunIsSound job outs work = (t : List Event) (status : Status) (s n : Outside) → IsShown s.view → RunsIn outs work t status → Fits t s n → IsReliable s → sound.Fits job s.view → IsFault status → ⊥
+abbrev pub RunIsSound : (View → Type 0) → Job → List Out → Step Status → Type 0
+RunIsSound Shows job outs work = (t : List Event) (status : Status) (s n : Outside) → Shows s.view → RunsIn outs work t status → Fits t s n → IsReliable s → sound.Fits job s.view → IsFault status → ⊥
 
--- the three together
-pub record RunsJob (job : Job) (outs : List Out) (work : Step Status) : Type 0 where
-  pub ends : RunEnds job outs work
+-- the three together, over outsides that show what each needs
+pub record RunsJob (Shows ShowsSound : View → Type 0) (job : Job) (outs : List Out) (work : Step Status) : Type 0 where
+  pub ends : RunEnds Shows job outs work
   pub keeps : RunKeeps job outs work
-  pub sound : RunIsSound job outs work
+  pub sound : RunIsSound ShowsSound job outs work
 
 -- ---- lines
 

@@ -43,6 +43,11 @@ ShowsBytesFor v (client schema address state channels) = ShowsBytes v
 ShowsBytesFor v (calls schema input) = HoldBytes v.files
 ShowsBytesFor v r = Unit {0}
 
+-- what has to be bytes for its run to end so, whatever else is shown: the files of `calls`, which reads one packet after another
+abbrev pub ReadsBytesFor : View → RequestText → Type 0
+ReadsBytesFor v (calls schema input) = HoldBytes v.files
+ReadsBytesFor v r = Unit {0}
+
 -- what is to come is as the request takes it: for sessions such moments, and for a client fewer than 2^30 bytes from its link
 abbrev pub HasComingOf : View → RequestText → Type 0
 HasComingOf v (serve schema address sessions) = AreMoments v.moments

@@ -20,7 +20,7 @@ use Rattle.commands.specs.Work.{RunsRequest, RunsStored, RunsWords, outs_of, wor
 use Rattle.run_laws.specs.Answers.{Answers}
 use Rattle.run_laws.specs.Ended.{ErrorsFailed, IsShown, LinesStand, LinkFailed, ReadFailed, RunsJob, StopsIn, ToldBefore, WriteFailed}
 use Rattle.run_laws.specs.Kept.{KeptEnds}
-use Rattle.run_laws.specs.Requests.{HasFilesOf, job_of}
+use Rattle.run_laws.specs.Requests.{HasFilesOf, ReadsBytesFor, ShowsBytesFor, job_of}
 
 -- what a run may answer: the answer to its words, or, where a link failed, one of the request's job that this broke
 abbrev pub MayAnswer : List (List ℕ) → Type 0 → View → Answer → Type 0
@@ -85,7 +85,7 @@ WordsAreTold = (words : List (List ℕ)) (t : List Event) (status : Status) (s n
 
 -- what its run comes to is its job
 abbrev pub RequestsEnd : Type 0
-RequestsEnd = (r : RequestText) → RunsJob (job_of r) (outs_of r) (work_of r)
+RequestsEnd = (r : RequestText) → RunsJob (λ v. ReadsBytesFor v r) (λ v. ShowsBytesFor v r) (job_of r) (outs_of r) (work_of r)
 
 abbrev pub RequestsReadFiles : Type 0
 RequestsReadFiles = (r : RequestText) (t : List Event) (status : Status) (s n : Outside) → RunsRequest r t status → Fits t s n → IsReliable s → HasFilesOf s.view.files r → status ≢ ReadFault

@@ -30,7 +30,8 @@ pub fn words_end()
     ensures told { WordsAreTold }
 {}
 
-/// All this holds of a request's run, whichever operands it has: also such as no words have, as an empty name or one that begins with `-`.
+/// All this holds of a request's run, whichever operands it has: also such as no words have, as an empty name or one that begins with `-`; and, but where a job's one
+/// answer rests on it, over an outside that shows other than bytes.
 pub fn requests_end()
     ensures ends { RequestsEnd }
     ensures reads { RequestsReadFiles }

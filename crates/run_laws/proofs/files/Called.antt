@@ -38,7 +38,7 @@ use Rattle.call_commands.specs.Calls as answers
 use Rattle.codec_rooms.specs.Typed.{OfText, after_schema, no_schema, schema_of}
 use Rattle.codec_rooms.proofs.TypedFiles.{text_stays}
 use Rattle.call_commands.specs.CallsWork.{OfInput, after_opening, tells_calls}
-use Rattle.run_laws.specs.Ended.{ErrorsFailed, IsShown, IsUntold, LinkFailed, RunsJob}
+use Rattle.run_laws.specs.Ended.{ErrorsFailed, FileBytes, IsUntold, LinkFailed, RunsJob}
 use Rattle.run_laws.specs.Ended as ended
 use Rattle.run_laws.proofs.files.Coming.{Spares, spares_as, spares_both, spares_more}
 use Rattle.run_laws.proofs.files.Cutting.{Cut, past, within, cut, line_told, some_more, told_as}
@@ -327,15 +327,15 @@ module _ (schema input : List ℕ) where
 
   -- ---- a run
 
-  calls_ends : (t : List Event) (status : Status) (s n : Outside) → IsShown s.view → RunsIn to_output (tells_calls schema input) t status → Fits t s n → CallsEnd t status s n
-  calls_ends t status s n shown (runs.done h) f =
+  calls_ends : (t : List Event) (status : Status) (s n : Outside) → HoldBytes s.view.files → RunsIn to_output (tells_calls schema input) t status → Fits t s n → CallsEnd t status s n
+  calls_ends t status s n bytes (runs.done h) f =
       let c = calls_whole t status s n h f in
-      goes_ends t status s n shown.bytes.files f (goes_plain (Of s.view.files) (HoldBytes s.view.files) (Came s) s n [] status t c) c
-  calls_ends t status s n shown (runs.out_of_memory h) f =
+      goes_ends t status s n bytes f (goes_plain (Of s.view.files) (HoldBytes s.view.files) (Came s) s n [] status t c) c
+  calls_ends t status s n bytes (runs.out_of_memory h) f =
       let parts = fits_both h.first h.rest s n (subst (λ (l : List Event). Fits l s n) h.splits f) in
       let begun = h.does.0 in
       let c = calls_go h.first begun.rest begun.answer s parts.0 begun.whole parts.1 in
-      let stopped = goes_stopped h.first begun.rest begun.answer s parts.0 shown.bytes.files parts.1 begun.only c in
+      let stopped = goes_stopped h.first begun.rest begun.answer s parts.0 bytes parts.1 begun.only c in
       subst (λ (l : List Event). CallsEnd l status s n) (sym h.splits)
       (memory_ends Of (Unit {0}) (Unit {0}) Left are_printed h.first h.rest status s parts.0 n stopped parts.2 (subst (λ (x : Status). Tells memory_line x h.rest status) h.does.1 h.goes))
 
@@ -367,9 +367,9 @@ module _ (schema input : List ℕ) where
     calls_sound t status n (runs.done h) f fault = goes_sound t status n (calls_whole t status s n h f) fault
     calls_sound t status n (runs.out_of_memory h) f fault = memory_sound (subst IsFault (told_status memory_line h.between h.rest status h.goes ∙ h.does.1) fault)
 
-  pub calls_runs : RunsJob (calls_job schema input) to_output (tells_calls schema input)
+  pub calls_runs : RunsJob FileBytes FileBytes (calls_job schema input) to_output (tells_calls schema input)
   calls_runs = record {
     ends = calls_ends;
-    keeps = λ t status s n shown h f. calls_keeps t status s n h f;
-    sound = λ t status s n shown h f r fits fault. calls_sound s r shown.bytes.files fits.0 fits.1 fits.2 t status n h f fault;
+    keeps = λ t status s n h f. calls_keeps t status s n h f;
+    sound = λ t status s n bytes h f r fits fault. calls_sound s r bytes fits.0 fits.1 fits.2 t status n h f fault;
   }

@@ -7,7 +7,7 @@ use Rattle.outside.specs.Answer.{Answer, done}
 use Rattle.codec_commands.specs.Check.{CheckAnswer, check_job, listing}
 use Rattle.codec_commands.proofs.OneCheck.{one_check}
 use Rattle.codec_rooms.specs.Check.{checks, lists}
-use Rattle.run_laws.specs.Ended.{RunsJob}
+use Rattle.run_laws.specs.Ended.{Anything, RunsJob}
 use Rattle.run_laws.proofs.files.Coming.{Comes, comes_print}
 use Rattle.run_laws.proofs.files.Ending.{IsPrinted, done_printed, runs_silent}
 use Rattle.run_laws.proofs.files.Schemas.{comes_schema, file_printed}
@@ -28,5 +28,5 @@ module _ (schema : List ℕ) where
   comes : Comes (λ s. Of s.view.files) (λ s. ⊥) (checks schema)
   comes = comes_schema (codes "schema") lists Is (λ S. ⊥) listed Schema tt refl schema (λ s. ⊥) (λ s. inl tt) (λ s file S has is came. came)
 
-  pub check_runs : RunsJob (check_job schema) [] (checks schema)
-  check_runs = runs_silent Of ⊥ (λ v. ⊥) are_printed (checks schema) (λ v shown a b. one_check v.files schema a b) comes
+  pub check_runs : RunsJob Anything Anything (check_job schema) [] (checks schema)
+  check_runs = runs_silent Of ⊥ (λ v. ⊥) are_printed (checks schema) Anything (λ v shown a b. one_check v.files schema a b) comes

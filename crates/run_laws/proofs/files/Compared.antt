@@ -16,7 +16,7 @@ use Rattle.codec_commands.proofs.OneLayers.{one_layers}
 use Rattle.codec_rooms.specs.Layers.{OfNew, compared, compares}
 use Rattle.codec_rooms.specs.Typed.{OfAsked, no_type, typed}
 use Rattle.outside.specs.Events.{Outside}
-use Rattle.run_laws.specs.Ended.{RunsJob}
+use Rattle.run_laws.specs.Ended.{Anything, RunsJob}
 use Rattle.run_laws.proofs.files.Coming.{Comes, comes_as, comes_print}
 use Rattle.run_laws.proofs.files.Ending.{IsPrinted, done_printed, refused_printed, runs_silent}
 use Rattle.run_laws.proofs.files.Schemas.{Reached, comes_schema, file_printed}
@@ -59,6 +59,6 @@ module _ (old new type : List ℕ) where
       comes_schema (codes "schema") (OfAsked (OfNew new) type) (λ S files. OfType S type new files) (λ S. NamesType S type) old_comes Schema tt refl old (λ s. ReachesNew s.view.files old type) (λ s. inl tt)
       (λ s file S has is came. record { text = file; of = S; there = has; accepted = is; named = came })
 
-  pub layers_runs : RunsJob (layers_job old new type) [] (compares old new type)
+  pub layers_runs : RunsJob Anything Anything (layers_job old new type) [] (compares old new type)
   layers_runs =
-      runs_silent Of ⊥ (λ v. ReachesNew v.files old type) are_printed (compares old new type) (λ v shown a b. one_layers v.files old new type a b) comes
+      runs_silent Of ⊥ (λ v. ReachesNew v.files old type) are_printed (compares old new type) Anything (λ v shown a b. one_layers v.files old new type a b) comes

@@ -28,7 +28,7 @@ use Rattle.codec_commands.proofs.OneDecode.{one_decode}
 use Rattle.codec_rooms.specs.Decode.{Verdict, ReadsValue, answer_of, printed, after_reading, after_opening, OfBytes, decodes, decodes_by}
 use Rattle.codec_rooms.proofs.InputRead.{keeps_value}
 use Rattle.codec_rooms.proofs.DecodingLaws.{IsLost, lost_read}
-use Rattle.run_laws.specs.Ended.{RunsJob}
+use Rattle.run_laws.specs.Ended.{Anything, RunsJob}
 use Rattle.run_laws.proofs.files.Coming.{Comes, ComesTo, unread, comes_after, comes_as, comes_print, comes_then, none_missing}
 use Rattle.run_laws.proofs.files.Ending.{IsPrinted, done_printed, refused_printed, runs_silent}
 use Rattle.run_laws.proofs.files.InputLeft.{value_meant}
@@ -109,6 +109,6 @@ module _ (schema type input : List ℕ) where
       comes_schema (codes "schema") (decodes_by type input) (λ S files. OfType OfInput S type input files) (λ S. HasPlannedType S type) (comes_word (OfBytes input) OfInput input (λ D T. comes_bytes D T input) type) Schema tt refl schema
       (λ s. ReachesInput s.view.files schema type) (λ s. inl tt) (λ s file S has is came. record { text = file; of = S; there = has; accepted = is; known = came })
 
-  pub decode_runs : RunsJob (decode_job schema type input) [] (decodes schema type input)
+  pub decode_runs : RunsJob Anything Anything (decode_job schema type input) [] (decodes schema type input)
   decode_runs =
-      runs_silent Of ⊥ (λ v. ReachesInput v.files schema type) are_printed (decodes schema type input) (λ v shown a b. one_decode v.files schema type input a b) comes
+      runs_silent Of ⊥ (λ v. ReachesInput v.files schema type) are_printed (decodes schema type input) Anything (λ v shown a b. one_decode v.files schema type input a b) comes

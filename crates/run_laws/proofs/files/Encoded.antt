@@ -13,7 +13,7 @@ use Rattle.codec_commands.specs.Typed.{HasPlannedType, OfType, ReachesInput}
 use Rattle.codec_commands.proofs.OneEncode.{one_encode}
 use Rattle.codec_rooms.specs.Encode.{encodes, encodes_by}
 use Rattle.codec_rooms.specs.Typed.{OfInput}
-use Rattle.run_laws.specs.Ended.{RunsJob}
+use Rattle.run_laws.specs.Ended.{Anything, RunsJob}
 use Rattle.run_laws.proofs.files.Coming.{Comes}
 use Rattle.run_laws.proofs.files.Ending.{IsPrinted, done_printed, refused_printed, runs_silent}
 use Rattle.run_laws.proofs.files.Schemas.{comes_input, comes_schema, comes_word, file_printed, type_printed}
@@ -53,6 +53,6 @@ module _ (schema type input : List ℕ) where
       (comes_word (OfInput OfJson input JSON_BYTES) OfJson input (λ D T. comes_input OfJson input JSON_BYTES D T (json_stays D T)) type) Schema tt refl schema
       (λ s. ReachesInput s.view.files schema type) (λ s. inl tt) (λ s file S has is came. record { text = file; of = S; there = has; accepted = is; known = came })
 
-  pub encode_runs : RunsJob (encode_job schema type input) [] (encodes schema type input)
+  pub encode_runs : RunsJob Anything Anything (encode_job schema type input) [] (encodes schema type input)
   encode_runs =
-      runs_silent Of ⊥ (λ v. ReachesInput v.files schema type) are_printed (encodes schema type input) (λ v shown a b. one_encode v.files schema type input a b) comes
+      runs_silent Of ⊥ (λ v. ReachesInput v.files schema type) are_printed (encodes schema type input) Anything (λ v shown a b. one_encode v.files schema type input a b) comes

@@ -24,7 +24,7 @@ use Rattle.outside.proofs.Causing.{happened_first, happened_last, keeps_print, k
 use Rattle.outside.specs.Fits.{Fits}
 use Rattle.outside.specs.Reliable.{IsReliable}
 use Rattle.outside.proofs.Fitting.{fits_both, fits_keeps, reliable_on, writes_append, writes_fail_full}
-use Rattle.run_laws.specs.Ended.{Ended, ErrorsFailed, IsShown, IsUntold, RunsJob}
+use Rattle.run_laws.specs.Ended.{Anything, Ended, ErrorsFailed, IsUntold, RunsJob}
 use Rattle.run_laws.specs.Ended as ends
 use Rattle.run_laws.proofs.files.Coming.{ComesTo, reading, unread, answered, Comes, Spares, spares_more}
 use Rattle.run_laws.proofs.files.Cutting.{Cut, past, within, cut, line_told, told_as}
@@ -279,21 +279,21 @@ module _ (Of : Files → Answer → Type 0) (pieces on : Type 0) (keeps : View �
 -- ---- the three together
 
 module _ (Of : Files → Answer → Type 0) (pieces : Type 0) (C : View → Type 0) (are_printed : (files : Files) (a : Answer) → Of files a → IsPrinted a) (work : Step Status)
-    (one : (v : View) → IsShown v → (a b : Answer) → Of v.files a → Of v.files b → a ≡ b) (comes : Comes (λ s. Of s.view.files) (λ s. C s.view) work) where
+    (Shows : View → Type 0) (one : (v : View) → Shows v → (a b : Answer) → Of v.files a → Of v.files b → a ≡ b) (comes : Comes (λ s. Of s.view.files) (λ s. C s.view) work) where
   abbrev keeps_so : View → View → Type 0
   keeps_so v w = KeepsUnread (C v) v w
 
-  runs_by : (writes : List Out) → StopsSo Of pieces ⊥ keeps_so are_printed writes → RunsJob (unlinked_job (λ v a. Of v.files a) pieces keeps_so) writes work
+  runs_by : (writes : List Out) → StopsSo Of pieces ⊥ keeps_so are_printed writes → RunsJob Anything Shows (unlinked_job (λ v a. Of v.files a) pieces keeps_so) writes work
   runs_by writes stops = record {
     ends = λ t status s n shown h f. run_ends Of pieces ⊥ keeps_so are_printed writes work (λ s. C s.view) comes stops t status s n h f;
-    keeps = λ t status s n shown h f. run_keeps writes work (λ s. Of s.view.files) (λ s. C s.view) comes t status s n h f;
+    keeps = λ t status s n h f. run_keeps writes work (λ s. Of s.view.files) (λ s. C s.view) comes t status s n h f;
     sound = λ t status s n shown h f r fits fault. run_sound Of pieces ⊥ keeps_so are_printed writes work (λ s. C s.view) comes stops s r fits.0 fits.1 fits.2 (λ a is. one s.view shown a fits.0 is fits.1) t status n h f fault;
   }
 
   -- a job that writes nothing before its answer is there
-  pub runs_silent : RunsJob (unlinked_job (λ v a. Of v.files a) pieces keeps_so) [] work
+  pub runs_silent : RunsJob Anything Shows (unlinked_job (λ v a. Of v.files a) pieces keeps_so) [] work
   runs_silent = runs_by [] (stops_silent Of pieces ⊥ keeps_so are_printed)
 
   -- one that writes its Output in pieces
-  pub runs_output : pieces → RunsJob (unlinked_job (λ v a. Of v.files a) pieces keeps_so) to_output work
+  pub runs_output : pieces → RunsJob Anything Shows (unlinked_job (λ v a. Of v.files a) pieces keeps_so) to_output work
   runs_output has = runs_by to_output (stops_output Of pieces ⊥ keeps_so are_printed has)

@@ -10,7 +10,7 @@ use Rattle.update_commands.specs.Make.{MakeAnswer, OfMadeRun, make_job, summed, 
 use Rattle.update_commands.proofs.OneMake.{one_make}
 use Rattle.update_commands.specs.MakeWork.{makes, makes_by}
 use Rattle.update_commands.specs.Profile.{OfProfile}
-use Rattle.run_laws.specs.Ended.{RunsJob}
+use Rattle.run_laws.specs.Ended.{Anything, RunsJob}
 use Rattle.run_laws.proofs.files.Coming.{Comes, comes_print}
 use Rattle.run_laws.proofs.files.Ending.{IsPrinted, done_printed, refused_printed, runs_silent}
 use Rattle.run_laws.proofs.files.Profiled.{comes_profile, profile_printed}
@@ -41,5 +41,5 @@ module _ (schema : List ℕ) (number count : ℕ) where
       comes_schema (codes "schema") (OfProfile (makes_by number count)) (λ S files. OfMade S) (λ S. ⊥) (λ S. comes_profile (makes_by number count) Tells ⊥ ⊥ S (λ p is came. came) run_comes) Schema tt refl schema
       (λ s. ⊥) (λ s. inl tt) (λ s file S has is came. came)
 
-  pub make_runs : RunsJob (make_job schema number count) [] (makes schema number count)
-  make_runs = runs_silent Of ⊥ (λ v. ⊥) are_printed (makes schema number count) (λ v shown a b. one_make number count v.files schema a b) comes
+  pub make_runs : RunsJob Anything Anything (make_job schema number count) [] (makes schema number count)
+  make_runs = runs_silent Of ⊥ (λ v. ⊥) are_printed (makes schema number count) Anything (λ v shown a b. one_make number count v.files schema a b) comes

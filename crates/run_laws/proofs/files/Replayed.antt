@@ -21,7 +21,7 @@ use Rattle.update_commands.proofs.OneReplay.{some_is}
 use Rattle.update_commands.proofs.ProfiledFiles.{each_has_one}
 use Rattle.update_commands.specs.Profile.{OfProfile}
 use Rattle.update_commands.specs.ReplayWork.{after_journal, replays, replays_by}
-use Rattle.run_laws.specs.Ended.{RunsJob}
+use Rattle.run_laws.specs.Ended.{Anything, FileBytes, RunsJob}
 use Rattle.run_laws.proofs.files.Coming.{Comes, comes_file}
 use Rattle.run_laws.proofs.files.Ending.{IsPrinted, after_printed, done_printed, runs_output}
 use Rattle.run_laws.proofs.files.Profiled.{comes_profile, profile_printed}
@@ -87,6 +87,6 @@ module _ (schema journal : List ℕ) (n : ℕ) where
       (λ S. comes_profile (replays_by journal n) (λ p files. OfJournalFile files journal n p) (Unit {0}) (IsOne S) S (λ p is came. (p, is)) (λ p. journal_comes p n journal)) Schema tt refl schema
       (λ s. HasProfile s.view.files schema) (λ s. inl tt) (λ s file S has is came. record { text = file; p = came.0; there = has; is = record { schema = S; read = is; is = came.1 } })
 
-  pub replay_runs : RunsJob (replay_job schema journal n) to_output (replays schema journal n)
+  pub replay_runs : RunsJob Anything FileBytes (replay_job schema journal n) to_output (replays schema journal n)
   replay_runs =
-      runs_output Of (Unit {0}) (λ v. HasProfile v.files schema) are_printed (replays schema journal n) (λ v shown a b. (each_has_one v.files shown.bytes.files schema journal n).one a b) comes tt
+      runs_output Of (Unit {0}) (λ v. HasProfile v.files schema) are_printed (replays schema journal n) FileBytes (λ v bytes a b. (each_has_one v.files bytes schema journal n).one a b) comes tt

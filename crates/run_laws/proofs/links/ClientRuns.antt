@@ -23,7 +23,7 @@ use Rattle.session_rooms.specs.Client.{after_reading, recovers}
 use Rattle.session_rooms.specs.ClientLaws.{IsOfClient, IsOpenedByClient, IsReadByClient}
 use Rattle.session_rooms.proofs.ClientLaws.{client_has_cause, client_touches}
 use Rattle.session_rooms.proofs.LeftViews.{SparesRest, all_leave}
-use Rattle.run_laws.specs.Ended.{ErrorsFailed, RunEnds, RunKeeps}
+use Rattle.run_laws.specs.Ended.{Anything, ErrorsFailed, RunEnds, RunKeeps}
 use Rattle.run_laws.proofs.links.ClientComing.{client_comes}
 use Rattle.run_laws.proofs.links.Ending.{ends_so, links_only, memory_ends}
 use Rattle.run_laws.proofs.links.PostRuns.{links_kept}
@@ -85,7 +85,7 @@ module _ (schema address name : List ℕ) (channels : List ℤ) where
   abbrev Kept : View → View → Type 0
   Kept = ClientKeeps schema address name channels
 
-  pub ends : RunEnds (client_job schema address name channels) to_link (recovers schema address name channels)
+  pub ends : RunEnds Anything (client_job schema address name channels) to_link (recovers schema address name channels)
   ends t r s n shown (runs.out_of_memory h) f = memory_ends (client_job schema address name channels) (recovers schema address name channels) t r s n h f
   ends t r s n shown (runs.done h) f = ends_so Answers Kept t r s n (client_has_cause schema address name channels t r (runs.done h)) (client_comes (ErrorsFailed t) schema address name channels t r s n h f (λ x. x)).0
 
@@ -100,7 +100,7 @@ module _ (schema address name : List ℕ) (channels : List ℤ) where
       inl (ap (λ (v : View). v.written.state) e.rest ∙ ap (λ k. k.2) kept, ap (λ (v : View). v.state_name) e.rest ∙ ap (λ k. k.3) kept)
 
   pub keeps : RunKeeps (client_job schema address name channels) to_link (recovers schema address name channels)
-  keeps t r s n shown run f =
+  keeps t r s n run f =
       let same = all_leave kept_of (IsOfClient schema address name) (event_keeps schema address name) t s n (client_touches schema address name channels t r run) f in
       let reach = run_reach schema name slots.State MAX_STATE_BYTES (λ p. after_reading p address name channels) (λ p. keeps_tell SparesRest (λ _. tt) tt _ _) t r s n run f in
       record {

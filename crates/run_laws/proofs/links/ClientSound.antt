@@ -6,7 +6,7 @@ use Rattle.std.proofs.lemmas.List.{take-append-drop}
 use Rattle.tl_numbers.specs.Bytes.{AreBytes}
 use Rattle.tl_base.specs.Calls.{link_taken, with_name}
 use Rattle.tl_base.specs.Contents.{Files, HoldBytes}
-use Rattle.tl_base.specs.Outside.{View, HasRoom, left_of, written_of, with_written}
+use Rattle.tl_base.specs.Outside.{View, HasRoom, ShowsBytes, left_of, written_of, with_written}
 use Rattle.tl_base.specs.declared.host.Out.TheVariants as outs
 use Rattle.tl_base.specs.declared.host.Slot.TheVariants as slots
 use Rattle.schema_files.specs.Loaded.{IsSchemaText}
@@ -273,8 +273,8 @@ module _ (schema address name : List ℕ) (channels : List ℤ) where
     schema_safe (Some text) t u r m n read h f g = text_safe text t u r m n read h f g
     schema_safe None t u r m n read h f g = absurd (files_can_be_read slots.Schema schema SCHEMA_BYTES t s m read f reliable (of.0, of.1))
 
-  pub sound : RunIsSound (client_job schema address name channels) to_link (recovers schema address name channels)
+  pub sound : RunIsSound ShowsBytes (client_job schema address name channels) to_link (recovers schema address name channels)
   sound t r s n shown (runs.done h) f reliable (a, of, room) fault =
       let parts = fits_both h.first h.rest s n (subst (λ (l : List Event). Fits l s n) h.splits f) in
-      schema_safe s shown.bytes.files (given_bytes s.view.links shown.bytes.links 0) reliable a of room h.between h.first h.rest r parts.0 n h.does h.goes parts.1 parts.2 fault
+      schema_safe s shown.files (given_bytes s.view.links shown.links 0) reliable a of room h.between h.first h.rest r parts.0 n h.does h.goes parts.1 parts.2 fault
   sound t r s n shown (runs.out_of_memory h) f reliable fit fault = safe_as r status.Memory (told_status _ h.between h.rest r h.goes ∙ h.does.1) memory_safe fault

@@ -1,6 +1,6 @@
 -- How a run of `post` ends, and what it leaves.
 use Rattle.std.proofs.Common.{ℕ, List, Option, Some, None, codes, ap, ◌∙◌, subst, inl, inr}
-use Rattle.tl_base.specs.Outside.{View}
+use Rattle.tl_base.specs.Outside.{View, ShowsBytes}
 use Rattle.tl_base.specs.declared.host.Slot.TheVariants as slots
 use Rattle.tl_schema.specs.Schemas.{Declared}
 use Rattle.wire_profile.specs.Indexes.{ProfileView}
@@ -33,7 +33,7 @@ use Rattle.session_rooms.proofs.PostLaws.{post_has_cause}
 use Rattle.session_rooms.proofs.PostFiles.{IsTold}
 use Rattle.session_rooms.proofs.PostLeaving.{post_leaves}
 use Rattle.session_rooms.proofs.PostUnfailing.{post_unfailing}
-use Rattle.run_laws.specs.Ended.{ErrorsFailed, IsShown, RunEnds, RunKeeps, RunIsSound, RunsJob}
+use Rattle.run_laws.specs.Ended.{Anything, ErrorsFailed, RunEnds, RunKeeps, RunIsSound, RunsJob}
 use Rattle.run_laws.proofs.links.Ending.{IsSafe, ends_so, memory_ends, memory_safe, refusal_safe, safe_as}
 use Rattle.run_laws.proofs.links.PostComing.{post_comes}
 use Rattle.run_laws.proofs.links.Reaching.{Reach, at_schema, at_file, at_link, run_reach, schema_stays}
@@ -41,7 +41,7 @@ use Rattle.run_laws.proofs.links.Reaching.{Reach, at_schema, at_file, at_link, r
 module _ (schema address input : List ℕ) where
   -- ---- how it ends
 
-  pub ends : RunEnds (post_job schema address input) to_link (posts schema address input)
+  pub ends : RunEnds Anything (post_job schema address input) to_link (posts schema address input)
   ends t r s n shown (runs.done h) f =
       ends_so (λ v a. PostAnswer v.files (next_link v) schema address input a) (PostKeeps schema input) t r s n (post_has_cause schema address input t r (runs.done h)) (post_comes (ErrorsFailed t) schema address input t r s n h f (λ x. x))
   ends t r s n shown (runs.out_of_memory h) f = memory_ends (post_job schema address input) (posts schema address input) t r s n h f
@@ -59,7 +59,7 @@ module _ (schema address input : List ℕ) where
   links_kept v w (at_link there) = inr there
 
   pub keeps : RunKeeps (post_job schema address input) to_link (posts schema address input)
-  keeps t r s n shown run f =
+  keeps t r s n run f =
       let left = post_leaves schema address input t r s n run f in
       let reach = run_reach schema input slots.Input JSON_BYTES (λ p. after_reading p address) (λ p. keeps_tell SparesRest (λ _. tt) tt _ _) t r s n run f in
       record { rest = left.0; state = (left.1, left.2); input = input_kept s.view n.view reach; links = links_kept s.view n.view reach }
@@ -71,12 +71,12 @@ module _ (schema address input : List ℕ) where
   told_safe r told (inr (inl e)) = told.0.1 e
   told_safe r told (inr (inr e)) = told.1 e
 
-  module _ (t : List Event) (r : Status) (s n : Outside) (shown : IsShown s.view) (run : posts schema address input t r) (fits : Fits t s n) (reliable : IsReliable s)
+  module _ (t : List Event) (r : Status) (s n : Outside) (shown : ShowsBytes s.view) (run : posts schema address input t r) (fits : Fits t s n) (reliable : IsReliable s)
       (a : Answer) (of : PostAnswer s.view.files (next_link s.view) schema address input a) (room : HasRoomFor a s.view) where
     -- the schema is a profile, and so the input is there
     input_safe : (p : ProfileView) → OfInput address input s.view.files (next_link s.view) p a → IsSafe r
     input_safe p (bytes, has, json) =
-        told_safe r (post_unfailing schema address input t r s n a run fits reliable (of.0, of.1) (bytes, has) (given_bytes s.view.links shown.bytes.links 0) of room)
+        told_safe r (post_unfailing schema address input t r s n a run fits reliable (of.0, of.1) (bytes, has) (given_bytes s.view.links shown.links 0) of room)
 
     profile_safe : (text : List ℕ) (S : Declared) (u : List Event) → ReadsFile slots.Schema schema SCHEMA_BYTES u (Some text) → IsSchemaText text S → (m : Outside) → Fits u s m → (l : List Event) → OfProfile (OfInputFile address input) S l r → IsSafe r
     profile_safe text S u read is m f l (no_profile fault lacks h) = refusal_safe _ l r h
@@ -90,11 +90,11 @@ module _ (schema address input : List ℕ) where
     read_safe (Some text) u l m read (typed.schema_of S is h) f = profile_safe text S u read is m f l h
     read_safe None u l m read h f = absurd (files_can_be_read slots.Schema schema SCHEMA_BYTES u s m read f reliable (of.0, of.1))
 
-  pub sound : RunIsSound (post_job schema address input) to_link (posts schema address input)
+  pub sound : RunIsSound ShowsBytes (post_job schema address input) to_link (posts schema address input)
   sound t r s n shown (runs.done h) f reliable (a, of, room) fault =
       let parts = fits_both h.first h.rest s n (subst (λ (l : List Event). Fits l s n) h.splits f) in
       read_safe t r s n shown h f reliable a of room h.between h.first h.rest parts.0 h.does h.goes parts.1 fault
   sound t r s n shown (runs.out_of_memory h) f reliable fit fault = safe_as r Memory (told_status _ h.between h.rest r h.goes ∙ h.does.1) memory_safe fault
 
-pub post_runs : (schema address input : List ℕ) → RunsJob (post_job schema address input) to_link (posts schema address input)
+pub post_runs : (schema address input : List ℕ) → RunsJob Anything ShowsBytes (post_job schema address input) to_link (posts schema address input)
 post_runs schema address input = record { ends = ends schema address input; keeps = keeps schema address input; sound = sound schema address input }

@@ -31,7 +31,7 @@ use Rattle.serve_rooms.specs.declared.status.KeptStatus.{KeptStatus}
 use Rattle.serve_rooms.specs.declared.status.KeptStatus.TheVariants.{Run, KeepFault}
 use Rattle.serve_rooms.proofs.Acting.{events_more}
 use Rattle.serve_rooms.proofs.Spared.{never_failed}
-use Rattle.run_laws.specs.Ended.{Ended, answered, read_failed, write_failed, link_failed, out_of_memory, out_of_memory_later, out_of_memory_told, ErrorsFailed, IsFaultLine, IsUntold, LinkFailed, RunEnds, StopsIn, ToldBefore}
+use Rattle.run_laws.specs.Ended.{Anything, Ended, answered, read_failed, write_failed, link_failed, out_of_memory, out_of_memory_later, out_of_memory_told, ErrorsFailed, IsFaultLine, IsUntold, LinkFailed, RunEnds, StopsIn, ToldBefore}
 use Rattle.run_laws.proofs.serving.AllCame.{AllCame, not_yet, unlistened, served_so, Given, LoopCame, served_all, unlinked, unwritten, unkept, begun, Stopped, all_came, keeper_happened, listening, so_given}
 use Rattle.run_laws.proofs.serving.Beginnings.{split}
 use Rattle.run_laws.proofs.serving.Lines.{LineEnd, lined, so_prefix}
@@ -246,7 +246,7 @@ module _ (schema address : List ℕ) (n : ℕ) where
 
   -- ---- a run
 
-  pub serve_ends : RunEnds job to_serve (serves schema address n)
+  pub serve_ends : RunEnds Anything job to_serve (serves schema address n)
   serve_ends t status s b shown (runs.done h) f =
       let fits : Fits (events_in h.acts) s b = subst (λ (l : List Event). Fits l s b) h.events f in
       let works : Work (h.acts ++ []) (Run status) = subst (λ (l : List Act). Work l (Run status)) (sym (append-nil h.acts)) h.works in

@@ -114,4 +114,4 @@ module _ (schema address : List ℕ) where
         ]
 
     pub serve_keeps : RunKeeps (serve_job schema address n) to_serve (serves schema address n)
-    serve_keeps t status s b shown run f = serve_kept s.view b.view (serving_kept t s b (serve_touches schema address n t status run) f) (left_so t status s b run f)
+    serve_keeps t status s b run f = serve_kept s.view b.view (serving_kept t s b (serve_touches schema address n t status run) f) (left_so t status s b run f)

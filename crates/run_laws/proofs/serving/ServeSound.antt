@@ -3,7 +3,7 @@ use Rattle.std.proofs.Common.{◌≡◌, inl, inr, ℕ, ◌≤◌, List, [], len
 use Rattle.std.specs.Prelude.{IfSome}
 use Rattle.std.specs.List.{All}
 use Rattle.tl_numbers.specs.Bytes.{ListsOfBytes}
-use Rattle.tl_base.specs.Outside.{View}
+use Rattle.tl_base.specs.Outside.{View, ShowsBytes}
 use Rattle.box_server.specs.Servers.{new_server}
 use Rattle.outside.specs.Answer.{Answer, memory_line}
 use Rattle.outside.specs.Sound.{HasRoomFor, IsFault}
@@ -51,7 +51,7 @@ room_later x a m same output room = record {
 }
 
 module _ (schema address : List ℕ) (n : ℕ) where
-  pub serve_sound : RunIsSound (serve_job schema address n) to_serve (serves schema address n)
+  pub serve_sound : RunIsSound ShowsBytes (serve_job schema address n) to_serve (serves schema address n)
   serve_sound t status s b shown (runs.out_of_memory h) f reliable fits fault =
       no_memory_fault (subst IsFault (told_status memory_line h.between h.rest status h.goes ∙ h.does.1) fault)
   serve_sound t status s b shown (runs.done h) f reliable fits fault =
@@ -72,4 +72,4 @@ module _ (schema address : List ℕ) (n : ℕ) where
           subst (λ (l : List (List ℕ)). OfSessions new_server address IsWhole n l m.view.moments has.p fits.0) (sym links) (subst (λ (l : List ℕ). OfSessions new_server address IsWhole n s.view.links l has.p fits.0) (sym moments) here) in
           let room = room_later fits.0 s m same.rest same.output fits.2 in
           let part : sound.Fits (sessions_job has.p n (OfSessions new_server address)) m.view = (fits.0, there, room) in
-          sessions_sound has.p good address n new_server m (subst ListsOfBytes (sym links) shown.bytes.links) (reliable_on s m (fits_keeps before s m first) reliable) part rest status b (all_came has.p address n new_server rest [] (Run status) m b works g) fault
+          sessions_sound has.p good address n new_server m (subst ListsOfBytes (sym links) shown.links) (reliable_on s m (fits_keeps before s m first) reliable) part rest status b (all_came has.p address n new_server rest [] (Run status) m b works g) fault
